@@ -1,0 +1,13 @@
+pub mod Effect
+pub mod Flow
+pub mod Greedy
+pub mod Items
+pub mod Levels
+pub mod Lists
+pub mod Order
+pub mod Plan
+pub mod Prefix
+pub mod Run
+pub mod Walk
+pub mod Sourced
+pub mod Smallest
