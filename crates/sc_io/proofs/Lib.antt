@@ -1,0 +1,3 @@
+pub mod ByteLists
+pub mod SteadyPuts
+pub mod StreamSteps
