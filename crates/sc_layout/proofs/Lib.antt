@@ -1,0 +1,10 @@
+pub mod Lists
+pub mod Stack
+pub mod Numbers
+pub mod Products
+pub mod Causes
+pub mod Kept
+pub mod Extents
+pub mod OneToOne
+pub mod Postfix
+pub mod Walks

@@ -1,0 +1,6 @@
+pub mod Bound
+pub mod Layout
+pub mod Place
+pub mod Pointer
+pub mod Small
+pub mod Laws
