@@ -1,0 +1,5 @@
+pub mod Answers
+pub mod Formats
+pub mod Meanings
+pub mod Runs
+pub mod Turns
