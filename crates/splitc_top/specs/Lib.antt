@@ -1,0 +1,16 @@
+pub mod Asking
+pub mod Run
+pub mod Simulation
+pub mod PlainOrder
+pub mod Words
+pub mod Memory
+pub mod Status
+pub mod Report
+pub mod Network
+pub mod Running
+pub mod Going
+pub mod Picks
+pub mod FormTokens
+pub mod Form
+pub mod Top
+pub mod Ending

@@ -1,0 +1,241 @@
+//! The words of the command line.
+
+ghost use Rattle.std.specs.Prelude.{◌≡◌, ◌≤◌, map, string_bytes, Some, None, IfSome, IfOk, IfErr};
+ghost use Rattle.splitc_top.specs.Words.{number_word, with_nodes, with_seed, with_budget, with_memory, with_option, options_of, no_options, command_of};
+ghost use Rattle.splitc_top.specs.declared.words.WordsError.TheVariants.{Form};
+
+use sc_base::LIMITS;
+use std::alloc::Global;
+
+/// What the words ask for, with the default of each option that was not given. `seed` chooses the schedule, `budget`
+/// is how many loop turns and calls a node may begin, and `memory` asks for the cells in the report.
+#[derive(Clone, Copy, Debug, PartialEq, Eq)]
+pub enum Command {
+    Run {
+        nodes: u32,
+        seed: u64,
+        budget: u64,
+        memory: bool,
+    },
+}
+
+/// Why the words name no command.
+#[derive(Clone, Copy, Debug, PartialEq, Eq)]
+pub enum WordsError {
+    Form,
+    OutOfMemory,
+}
+
+/// The options that were given so far.
+#[derive(Clone, Copy)]
+struct Options {
+    nodes: Option<u32>,
+    seed: Option<u64>,
+    budget: Option<u64>,
+    memory: bool,
+}
+
+/// The number of a word of 1 to 20 decimal digits, where it is in the range.
+fn number_word(word: &[u8], low: u64, high: u64) -> Option<u64>
+    ensures value { result ≡ number_word low high word.now }
+    ensures above { IfSome result (λ n. n ≤ high) }
+{
+    if word.is_empty() || word.len() > 20 {
+        return None;
+    }
+    let mut number: u64 = 0;
+    for x in word {
+        if *x < b'0' || b'9' < *x {
+            return None;
+        }
+        number = number.checked_mul(10)?.checked_add((*x - b'0') as u64)?;
+    }
+    if low <= number && number <= high {
+        Some(number)
+    } else {
+        None
+    }
+}
+
+fn with_nodes(options: Options, nodes: u32) -> Option<Options>
+    ensures { result ≡ with_nodes options (Some nodes) }
+{
+    match options.nodes {
+        Some(_) => None,
+        None => Some(Options {
+            nodes: Some(nodes),
+            ..options
+        }),
+    }
+}
+
+fn with_seed(options: Options, seed: u64) -> Option<Options>
+    ensures { result ≡ with_seed options (Some seed) }
+{
+    match options.seed {
+        Some(_) => None,
+        None => Some(Options {
+            seed: Some(seed),
+            ..options
+        }),
+    }
+}
+
+fn with_budget(options: Options, budget: u64) -> Option<Options>
+    ensures { result ≡ with_budget options (Some budget) }
+{
+    match options.budget {
+        Some(_) => None,
+        None => Some(Options {
+            budget: Some(budget),
+            ..options
+        }),
+    }
+}
+
+fn with_memory(options: Options) -> Option<Options>
+    ensures { result ≡ with_memory options }
+{
+    if options.memory {
+        None
+    } else {
+        Some(Options {
+            memory: true,
+            ..options
+        })
+    }
+}
+
+/// The options with one more, which has a word of its own and was not given before.
+fn with_option(name: &str, word: &str, options: Options) -> Option<Options>
+    ensures { result ≡ with_option name.now word.now options }
+{
+    let word = word.as_bytes();
+    match name {
+        "-n" => with_nodes(options, number_word(word, 1, LIMITS.nodes)? as u32),
+        "-s" => with_seed(options, number_word(word, 0, u64::MAX)?),
+        "-b" => with_budget(options, number_word(word, 0, LIMITS.budget)?),
+        _ => None,
+    }
+}
+
+/// The options that the words give, where each is given once and in the written form.
+fn options_of(words: &[String]) -> Option<Options>
+    ensures { result ≡ options_of (map string_bytes words.now) (Some no_options) }
+{
+    let mut options = Options {
+        nodes: None,
+        seed: None,
+        budget: None,
+        memory: false,
+    };
+    let mut rest = words;
+    while let Some((name, after)) = rest.split_first() {
+        if name.as_str() == "-m" {
+            options = with_memory(options)?;
+            rest = after;
+        } else {
+            let (word, after) = after.split_first()?;
+            options = with_option(name.as_str(), word.as_str(), options)?;
+            rest = after;
+        }
+    }
+    Some(options)
+}
+
+/// The command that the words name. `Form` says that they are not in the written form: `run` and its options, each at
+/// most once and in any order, `-m` alone and `-n`, `-s` and `-b` each with a number in its range.
+pub fn read_words(_alloc: Global, words: &[String]) -> Result<Command, WordsError>
+    ensures command { IfOk result (λ c. command_of (map string_bytes words.now) ≡ Some c) }
+    ensures form { IfErr result (λ e. e ≡ Form → command_of (map string_bytes words.now) ≡ None) }
+{
+    let [command, rest @ ..] = words else {
+        return Err(WordsError::Form);
+    };
+    if command.as_str() != "run" {
+        return Err(WordsError::Form);
+    }
+    let Some(options) = options_of(rest) else {
+        return Err(WordsError::Form);
+    };
+    Ok(Command::Run {
+        nodes: options.nodes.unwrap_or(4),
+        seed: options.seed.unwrap_or(1),
+        budget: options.budget.unwrap_or(100_000),
+        memory: options.memory,
+    })
+}
+
+#[cfg(test)]
+mod tests {
+    use super::*;
+    use std::alloc::AllocError;
+    use std::test::Fail;
+
+    fn words_of(alloc: Global, line: &str) -> Result<Vec<String>, AllocError> {
+        let mut words = Vec::new(alloc);
+        for word in line.split(' ') {
+            if !word.is_empty() {
+                words.push(word.to_string(alloc)?)?;
+            }
+        }
+        Ok(words)
+    }
+
+    fn run(nodes: u32, seed: u64, budget: u64, memory: bool) -> Result<Command, WordsError> {
+        Ok(Command::Run {
+            nodes,
+            seed,
+            budget,
+            memory,
+        })
+    }
+
+    #[test]
+    fn the_written_form(rt: HostRuntime) -> Result<(), Fail> {
+        let outside = Err(WordsError::Form);
+        let rows = [
+            ("run", run(4, 1, 100_000, false)),
+            ("run -n 2", run(2, 1, 100_000, false)),
+            ("run -n 16 -m", run(16, 1, 100_000, true)),
+            ("run -m -s 007", run(4, 7, 100_000, true)),
+            ("run -b 0 -n 00000000000000000001", run(1, 1, 0, false)),
+            (
+                "run -s 18446744073709551615",
+                run(4, u64::MAX, 100_000, false),
+            ),
+            ("run -b 1000000", run(4, 1, 1_000_000, false)),
+            ("run -n 0", outside),
+            ("run -n 17", outside),
+            ("run -n 2 -n 2", outside),
+            ("run -n2", outside),
+            ("run -n=2", outside),
+            ("run --n 2", outside),
+            ("run --", outside),
+            ("run -h", outside),
+            ("run -n", outside),
+            ("run -n -m", outside),
+            ("run -n +2", outside),
+            ("run -n 2x", outside),
+            ("run -m -m", outside),
+            ("run -s 000000000000000000001", outside),
+            ("run -s 18446744073709551616", outside),
+            ("run -s 99999999999999999999", outside),
+            ("run -b 1000001", outside),
+            ("run run", outside),
+            ("-n 2 run", outside),
+            ("go", outside),
+            ("threads", outside),
+            ("", outside),
+        ];
+        for (line, wanted) in rows {
+            let words = words_of(rt.alloc(), line)?;
+            assert_eq!(rt;
+                read_words(rt.alloc(), words.as_slice()),
+                wanted,
+                "at {line}"
+            );
+        }
+        Ok(())
+    }
+}
