@@ -1,1 +1,5 @@
+pub mod ViewLaws
+pub mod ViewStmtLaws
+pub mod ViewTypedLaws
+pub mod ViewTypedStmtLaws
 pub mod Views
