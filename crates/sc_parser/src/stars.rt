@@ -1,0 +1,41 @@
+//! Stars, as of a pointer's type.
+
+use crate::reader::{Reader, Refused};
+use sc_base::{Star, Stars};
+use sc_tree::{Mark, Word};
+
+impl Reader<'_> {
+    ghost use Rattle.sc_parser.specs.Reading.{Gives, Moves};
+    ghost use Rattle.sc_parser.specs.ReadingExpressions as reading;
+
+    /// As many stars as there are.
+    #[tactic(auto, using(crate::proofs::Many::turns), unfolding(crate::specs::ReadingExpressions::stars))]
+    pub fn stars(&mut self) -> Result<Stars, Refused>
+        ensures { Gives (λ s. s) result self.old self.new reading.stars }
+    {
+        let mut stars = Vec::new(self.alloc);
+        for _turn in self.next..self.tokens.len() {
+            let Some(star) = self.one_star() else {
+                break;
+            };
+            stars.push(star)?;
+        }
+        Ok(Stars::from_vec(stars))
+    }
+
+    #[tactic(auto, unfolding(crate::specs::Reading::bind, crate::specs::Reading::pure, crate::specs::Reading::takes_if, crate::specs::Reading::maybe, crate::specs::ReadingExpressions::one_star))]
+    fn one_star(&mut self) -> Option<Star>
+        ensures { Moves result self.old self.new reading.one_star }
+    {
+        if !self.takes_mark(Mark::Star) {
+            return None;
+        }
+        if self.takes_word(Word::Global) {
+            return Some(Star::Global);
+        }
+        if self.takes_word(Word::Spread) {
+            return Some(Star::Spread);
+        }
+        Some(Star::Local)
+    }
+}
