@@ -1,0 +1,13 @@
+pub mod Answer
+pub mod Calls
+pub mod Known
+pub mod Operators
+pub mod Program
+pub mod Rules
+pub mod Source
+pub mod Statements
+pub mod Types
+pub mod Typing
+pub mod ViewKnown
+pub mod ViewSource
+pub mod Walk
