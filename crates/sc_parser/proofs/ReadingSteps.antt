@@ -1,13 +1,14 @@
 -- Reading one thing after the other, as the code does.
-use Rattle.std.proofs.Common.{◌≡◌, refl, ap, sym, ◌∙◌, ℕ, List, Option, Some, None, Bool, true, false, Result, Ok, Err}
+use Rattle.std.proofs.Common.{◌≡◌, refl, ap, sym, ◌∙◌, ℕ, List, Bool, Result, Ok, Err}
 use Rattle.std.specs.Prelude.{slice_get}
 use Rattle.sc_tree.specs.declared.token.Token.{Token}
 use Rattle.sc_tree.specs.declared.token.TokenKind.{TokenKind}
 use Rattle.sc_parser.specs.declared.reader.Reader.{Reader}
-use Rattle.sc_parser.specs.declared.reader.Position.{Position}
-use Rattle.sc_parser.specs.declared.reader.Refused.{Refused}
-use Rattle.sc_parser.specs.declared.reader.Refused.TheVariants.{Memory, Syntax, Deep}
-use Rattle.sc_parser.specs.Reading.{Parser, Out, got, refused, syntax, deep, and_then, bind, pure, here, position, next_is, sees, fail, Moves, Gives, Fails}
+use Rattle.sc_grammar.specs.declared.position.Position.{Position}
+use Rattle.sc_grammar.specs.declared.error.Refused.{Refused}
+use Rattle.sc_grammar.specs.declared.error.Refused.TheVariants.{Memory, Syntax, Deep}
+use Rattle.sc_grammar.specs.Reading.{Parser, Out, got, and_then, bind, pure, here, position, next_is, sees, fail, Fails}
+use Rattle.sc_parser.specs.Returned.{Moves, Gives}
 
 pub then_moves : {A B : Type 0} {x : A} {old mid : Reader} {p : Parser A} (f : A → Parser B) → Moves x old mid p → bind p f old.tokens.now old.next ≡ f x mid.tokens.now mid.next
 unfolding bind

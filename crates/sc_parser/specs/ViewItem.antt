@@ -2,7 +2,7 @@
 use Rattle.sc_tree.specs.ViewTree.{plain_function}
 use Rattle.sc_parser.specs.declared.items.Item.{Item as CodeItem}
 use Rattle.sc_parser.specs.declared.items.Item.TheVariants as code
-use Rattle.sc_parser.specs.Items.{Item, objects, function}
+use Rattle.sc_grammar.specs.Items.{Item, objects, function}
 
 abbrev pub plain_item : CodeItem → Item
 plain_item (code.Objects all) = objects all

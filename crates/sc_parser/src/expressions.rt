@@ -1,11 +1,12 @@
 //! Reading expressions, with so many levels of depth left.
 
 ghost use Rattle.std.specs.Prelude.{◌≡◌};
-ghost use Rattle.sc_parser.specs.ReadingExpressions as reading;
+ghost use Rattle.sc_grammar.specs.ReadingExpressions as reading;
 
-use crate::marks::{Prefix, prefix_of};
-use crate::reader::{Position, Reader, Refused};
+use crate::marks::prefix_of;
+use crate::reader::Reader;
 use crate::trees::{around, assignment, between, cast, chained, listed, placed, prefixed, tailed};
+use sc_grammar::{Position, Prefix, Refused};
 use sc_tree::{Expr, ExprKind, Exprs, Link, Mark, Tail, TokenKind, Word};
 use sqlite_items::{Boxed, Items};
 
@@ -38,11 +39,12 @@ impl Reader<'_> {
     ghost use Rattle.std.specs.Option.{option_map};
     ghost use Rattle.sc_tree.specs.Plain.{Expression};
     ghost use Rattle.sc_tree.specs.View.{plain, plain_link, plain_tail};
-    ghost use Rattle.sc_parser.specs.Reading.{Gives, Fails, no_deeper};
-    ghost use Rattle.sc_parser.specs.ReadingExpressions.{unary, assigned, branched, level_by, operand_at, begins_expression};
+    ghost use Rattle.sc_grammar.specs.Reading.{Fails, no_deeper};
+    ghost use Rattle.sc_parser.specs.Returned.{Gives};
+    ghost use Rattle.sc_grammar.specs.ReadingExpressions.{unary, assigned, branched, level_by, operand_at, begins_expression};
 
     /// The refusal of an expression that is too deep.
-    #[tactic(auto, unfolding(crate::specs::Reading::bind, crate::specs::Reading::next_is, crate::specs::Reading::too_deep, crate::specs::Reading::fail))]
+    #[tactic(auto, unfolding(sc_grammar::specs::Reading::bind, sc_grammar::specs::Reading::next_is, sc_grammar::specs::Reading::too_deep, sc_grammar::specs::Reading::fail))]
     fn no_deeper_expression(&self) -> Refused
         ensures { Fails result (no_deeper {A = Expression} begins_expression self.now.tokens.now self.now.next) }
     {
@@ -55,7 +57,7 @@ impl Reader<'_> {
 
     /// An assignment, or a condition.
     #[cycle(expression)]
-    #[tactic(auto, unfolding(crate::specs::Reading::bind, crate::specs::Reading::pure, crate::specs::Reading::here, crate::specs::Reading::next_is, crate::specs::Reading::too_deep, crate::specs::Reading::fail, crate::specs::ReadingExpressions::assigned, crate::specs::ReadingExpressions::assign_by, crate::specs::ReadingExpressions::cond))]
+    #[tactic(auto, unfolding(sc_grammar::specs::Reading::bind, sc_grammar::specs::Reading::pure, sc_grammar::specs::Reading::here, sc_grammar::specs::Reading::next_is, sc_grammar::specs::Reading::too_deep, sc_grammar::specs::Reading::fail, sc_grammar::specs::ReadingExpressions::assigned, sc_grammar::specs::ReadingExpressions::assign_by, sc_grammar::specs::ReadingExpressions::cond))]
     pub fn assigned(&mut self, levels: usize) -> Result<Expr, Refused>
         ensures { Gives plain result self.old self.new (assigned levels) }
     {
@@ -76,7 +78,7 @@ impl Reader<'_> {
 
     /// What stands behind the `:` of a condition.
     #[cycle(expression)]
-    #[tactic(auto, unfolding(crate::specs::Reading::bind, crate::specs::Reading::next_is, crate::specs::Reading::too_deep, crate::specs::Reading::fail, crate::specs::ReadingExpressions::branched, crate::specs::ReadingExpressions::cond))]
+    #[tactic(auto, unfolding(sc_grammar::specs::Reading::bind, sc_grammar::specs::Reading::next_is, sc_grammar::specs::Reading::too_deep, sc_grammar::specs::Reading::fail, sc_grammar::specs::ReadingExpressions::branched, sc_grammar::specs::ReadingExpressions::cond))]
     fn branched(&mut self, levels: usize) -> Result<Expr, Refused>
         ensures { Gives plain result self.old self.new (branched levels) }
     {
@@ -88,7 +90,7 @@ impl Reader<'_> {
 
     /// A choice between two expressions, or operands of the loosest level.
     #[cycle(expression)]
-    #[tactic(auto, unfolding(crate::specs::Reading::bind, crate::specs::Reading::pure, crate::specs::Reading::here, crate::specs::Reading::takes_if, crate::specs::Reading::maybe, crate::specs::ReadingExpressions::cond, crate::specs::ReadingExpressions::cond_by))]
+    #[tactic(auto, unfolding(sc_grammar::specs::Reading::bind, sc_grammar::specs::Reading::pure, sc_grammar::specs::Reading::here, sc_grammar::specs::Reading::takes_if, sc_grammar::specs::Reading::maybe, sc_grammar::specs::ReadingExpressions::cond, sc_grammar::specs::ReadingExpressions::cond_by))]
     fn cond(&mut self, levels: usize) -> Result<Expr, Refused>
         ensures { Gives plain result self.old self.new (reading.cond levels) }
     {
@@ -105,7 +107,7 @@ impl Reader<'_> {
 
     /// What stands behind the `?`.
     #[cycle(expression)]
-    #[tactic(auto, using(sc_tree::proofs::ViewLaws::expression_views), unfolding(crate::specs::Reading::bind, crate::specs::Reading::pure, crate::specs::ReadingExpressions::choice_after))]
+    #[tactic(auto, using(sc_tree::proofs::ViewLaws::expression_views), unfolding(sc_grammar::specs::Reading::bind, sc_grammar::specs::Reading::pure, sc_grammar::specs::ReadingExpressions::choice_after))]
     fn choice_after(
         &mut self,
         start: Position,
@@ -125,7 +127,7 @@ impl Reader<'_> {
 
     /// Operands that are joined by operators below this level, or one alone.
     #[cycle(expression)]
-    #[tactic(auto, unfolding(crate::specs::Reading::bind, crate::specs::Reading::pure, crate::specs::Reading::here, crate::specs::ReadingExpressions::level_by))]
+    #[tactic(auto, unfolding(sc_grammar::specs::Reading::bind, sc_grammar::specs::Reading::pure, sc_grammar::specs::Reading::here, sc_grammar::specs::ReadingExpressions::level_by))]
     fn level(&mut self, level: u32, levels: usize) -> Result<Expr, Refused>
         ensures { Gives plain result self.old self.new (level_by (unary levels) level) }
     {
@@ -143,7 +145,7 @@ impl Reader<'_> {
 
     /// The operators of this level behind the first operand, with theirs.
     #[cycle(expression)]
-    #[tactic(auto, using(crate::proofs::Many::turns), unfolding(crate::specs::Reading::bind, crate::specs::Reading::pure, crate::specs::ReadingExpressions::with_links))]
+    #[tactic(auto, using(sc_grammar::proofs::ManyLaws::turns), unfolding(sc_grammar::specs::Reading::bind, sc_grammar::specs::Reading::pure, sc_grammar::specs::ReadingExpressions::with_links))]
     fn with_links(
         &mut self,
         level: u32,
@@ -164,7 +166,7 @@ impl Reader<'_> {
     }
 
     #[cycle(expression)]
-    #[tactic(auto, using(sc_tree::proofs::ViewLaws::expression_views), unfolding(crate::specs::Reading::bind, crate::specs::Reading::pure, crate::specs::Reading::here, crate::specs::ReadingExpressions::one_link))]
+    #[tactic(auto, using(sc_tree::proofs::ViewLaws::expression_views), unfolding(sc_grammar::specs::Reading::bind, sc_grammar::specs::Reading::pure, sc_grammar::specs::Reading::here, sc_grammar::specs::ReadingExpressions::one_link))]
     fn one_link(&mut self, level: u32, levels: usize) -> Result<Option<Link>, Refused>
         ensures { Gives (option_map plain_link) result self.old self.new (reading.one_link (level_by (unary levels) level) level) }
     {
@@ -183,7 +185,7 @@ impl Reader<'_> {
 
     /// The `&&` or `||` of this level behind the first operand, with their operands.
     #[cycle(expression)]
-    #[tactic(auto, using(crate::proofs::Many::turns), unfolding(crate::specs::Reading::bind, crate::specs::Reading::pure, crate::specs::ReadingExpressions::with_operands))]
+    #[tactic(auto, using(sc_grammar::proofs::ManyLaws::turns), unfolding(sc_grammar::specs::Reading::bind, sc_grammar::specs::Reading::pure, sc_grammar::specs::ReadingExpressions::with_operands))]
     fn with_operands(
         &mut self,
         level: u32,
@@ -204,7 +206,7 @@ impl Reader<'_> {
     }
 
     #[cycle(expression)]
-    #[tactic(auto, unfolding(crate::specs::Reading::bind, crate::specs::Reading::pure, crate::specs::Reading::takes_if, crate::specs::Reading::maybe, crate::specs::ReadingExpressions::one_operand))]
+    #[tactic(auto, unfolding(sc_grammar::specs::Reading::bind, sc_grammar::specs::Reading::pure, sc_grammar::specs::Reading::takes_if, sc_grammar::specs::Reading::maybe, sc_grammar::specs::ReadingExpressions::one_operand))]
     fn one_operand(&mut self, level: u32, levels: usize) -> Result<Option<Expr>, Refused>
         ensures { Gives (option_map plain) result self.old self.new (reading.one_operand (level_by (unary levels) level) level) }
     {
@@ -217,7 +219,7 @@ impl Reader<'_> {
 
     /// An operand, with what stands before and behind it.
     #[cycle(expression)]
-    #[tactic(auto, unfolding(crate::specs::Reading::bind, crate::specs::Reading::pure, crate::specs::Reading::here, crate::specs::Reading::next_is, crate::specs::Reading::too_deep, crate::specs::Reading::takes_if, crate::specs::Reading::maybe, crate::specs::ReadingExpressions::unary, crate::specs::ReadingExpressions::unary_by, crate::specs::ReadingExpressions::prefix_after, crate::specs::ReadingExpressions::no_prefix))]
+    #[tactic(auto, unfolding(sc_grammar::specs::Reading::bind, sc_grammar::specs::Reading::pure, sc_grammar::specs::Reading::here, sc_grammar::specs::Reading::next_is, sc_grammar::specs::Reading::too_deep, sc_grammar::specs::Reading::takes_if, sc_grammar::specs::Reading::maybe, sc_grammar::specs::ReadingExpressions::unary, sc_grammar::specs::ReadingExpressions::unary_by, sc_grammar::specs::ReadingExpressions::prefix_after, sc_grammar::specs::ReadingExpressions::no_prefix))]
     fn unary(&mut self, levels: usize) -> Result<Expr, Refused>
         ensures { Gives plain result self.old self.new (unary levels) }
     {
@@ -238,7 +240,7 @@ impl Reader<'_> {
 
     /// The operand of an operator that stands before it.
     #[cycle(expression)]
-    #[tactic(auto, unfolding(crate::specs::Reading::bind, crate::specs::Reading::pure, crate::specs::ReadingExpressions::prefix_after))]
+    #[tactic(auto, unfolding(sc_grammar::specs::Reading::bind, sc_grammar::specs::Reading::pure, sc_grammar::specs::ReadingExpressions::prefix_after))]
     fn prefix_after(
         &mut self,
         start: Position,
@@ -254,7 +256,7 @@ impl Reader<'_> {
 
     /// A cast or an expression, behind the parenthesis that starts it.
     #[cycle(expression)]
-    #[tactic(auto, unfolding(crate::specs::Reading::bind, crate::specs::Reading::pure, crate::specs::Reading::next_is, crate::specs::Reading::too_deep, crate::specs::Reading::takes_if, crate::specs::Reading::maybe, crate::specs::ReadingExpressions::parenthesis_after, crate::specs::ReadingExpressions::cast_after))]
+    #[tactic(auto, unfolding(sc_grammar::specs::Reading::bind, sc_grammar::specs::Reading::pure, sc_grammar::specs::Reading::next_is, sc_grammar::specs::Reading::too_deep, sc_grammar::specs::Reading::takes_if, sc_grammar::specs::Reading::maybe, sc_grammar::specs::ReadingExpressions::parenthesis_after, sc_grammar::specs::ReadingExpressions::cast_after))]
     fn parenthesis_after(&mut self, start: Position, levels: usize) -> Result<Expr, Refused>
         ensures { Gives plain result self.old self.new (reading.if_cast (assigned levels) start (operand_at levels) (reading.parenthesis_after (assigned levels) start)) }
     {
@@ -272,7 +274,7 @@ impl Reader<'_> {
 
     /// The stars and the operand of a cast.
     #[cycle(expression)]
-    #[tactic(auto, unfolding(crate::specs::Reading::bind, crate::specs::Reading::pure, crate::specs::ReadingExpressions::cast_after))]
+    #[tactic(auto, unfolding(sc_grammar::specs::Reading::bind, sc_grammar::specs::Reading::pure, sc_grammar::specs::ReadingExpressions::cast_after))]
     fn cast_after(&mut self, start: Position, levels: usize) -> Result<Expr, Refused>
         ensures { Gives plain result self.old self.new (reading.cast_after (assigned levels) start (unary levels)) }
     {
@@ -285,7 +287,7 @@ impl Reader<'_> {
 
     /// The indices, `++` and `--` behind the expression that starts there.
     #[cycle(expression)]
-    #[tactic(auto, using(crate::proofs::Many::turns), unfolding(crate::specs::Reading::bind, crate::specs::Reading::pure, crate::specs::ReadingExpressions::with_tails))]
+    #[tactic(auto, using(sc_grammar::proofs::ManyLaws::turns), unfolding(sc_grammar::specs::Reading::bind, sc_grammar::specs::Reading::pure, sc_grammar::specs::ReadingExpressions::with_tails))]
     fn with_tails(&mut self, start: Position, first: Expr, levels: usize) -> Result<Expr, Refused>
         ensures { Gives plain result self.old self.new (reading.with_tails (assigned levels) start (plain first)) }
     {
@@ -300,7 +302,7 @@ impl Reader<'_> {
     }
 
     #[cycle(expression)]
-    #[tactic(auto, using(sc_tree::proofs::ViewLaws::expression_views), unfolding(crate::specs::Reading::bind, crate::specs::Reading::pure, crate::specs::Reading::here, crate::specs::Reading::takes_if, crate::specs::Reading::maybe, crate::specs::ReadingExpressions::one_tail, crate::specs::ReadingExpressions::index_after))]
+    #[tactic(auto, using(sc_tree::proofs::ViewLaws::expression_views), unfolding(sc_grammar::specs::Reading::bind, sc_grammar::specs::Reading::pure, sc_grammar::specs::Reading::here, sc_grammar::specs::Reading::takes_if, sc_grammar::specs::Reading::maybe, sc_grammar::specs::ReadingExpressions::one_tail, sc_grammar::specs::ReadingExpressions::index_after))]
     fn one_tail(&mut self, levels: usize) -> Result<Option<Tail>, Refused>
         ensures { Gives (option_map plain_tail) result self.old self.new (reading.one_tail (assigned levels)) }
     {
@@ -321,7 +323,7 @@ impl Reader<'_> {
 
     /// A primary expression that is in no parentheses.
     #[cycle(expression)]
-    #[tactic(auto, using(sc_tree::proofs::ViewLaws::expression_views), unfolding(crate::specs::Reading::bind, crate::specs::Reading::pure, crate::specs::Reading::maybe, crate::specs::ReadingExpressions::plain_primary))]
+    #[tactic(auto, using(sc_tree::proofs::ViewLaws::expression_views), unfolding(sc_grammar::specs::Reading::bind, sc_grammar::specs::Reading::pure, sc_grammar::specs::Reading::maybe, sc_grammar::specs::ReadingExpressions::plain_primary))]
     fn plain_primary(&mut self, start: Position, levels: usize) -> Result<Expr, Refused>
         ensures { Gives plain result self.old self.new (reading.plain_primary (assigned levels) start) }
     {
@@ -334,7 +336,7 @@ impl Reader<'_> {
         self.by_word(start)
     }
 
-    #[tactic(auto, using(sc_tree::proofs::ViewLaws::expression_views), unfolding(crate::specs::Reading::bind, crate::specs::Reading::pure, crate::specs::Reading::fail, crate::specs::Reading::takes_if, crate::specs::Reading::maybe, crate::specs::ReadingExpressions::by_word))]
+    #[tactic(auto, using(sc_tree::proofs::ViewLaws::expression_views), unfolding(sc_grammar::specs::Reading::bind, sc_grammar::specs::Reading::pure, sc_grammar::specs::Reading::fail, sc_grammar::specs::Reading::takes_if, sc_grammar::specs::Reading::maybe, sc_grammar::specs::ReadingExpressions::by_word))]
     fn by_word(&mut self, start: Position) -> Result<Expr, Refused>
         ensures { Gives plain result self.old self.new (reading.by_word start) }
     {
@@ -353,7 +355,7 @@ impl Reader<'_> {
         Err(self.unexpected())
     }
 
-    #[tactic(auto, using(sc_tree::proofs::ViewLaws::expression_views), unfolding(crate::specs::Reading::bind, crate::specs::Reading::pure, crate::specs::ReadingExpressions::size_of))]
+    #[tactic(auto, using(sc_tree::proofs::ViewLaws::expression_views), unfolding(sc_grammar::specs::Reading::bind, sc_grammar::specs::Reading::pure, sc_grammar::specs::ReadingExpressions::size_of))]
     fn size_of(&mut self, start: Position) -> Result<Expr, Refused>
         ensures { Gives plain result self.old self.new (reading.size_of start) }
     {
@@ -365,7 +367,7 @@ impl Reader<'_> {
 
     /// A call, or the name alone.
     #[cycle(expression)]
-    #[tactic(auto, using(sc_tree::proofs::ViewLaws::expression_views), unfolding(crate::specs::Reading::bind, crate::specs::Reading::pure, crate::specs::Reading::takes_if, crate::specs::Reading::maybe, crate::specs::ReadingExpressions::after_name))]
+    #[tactic(auto, using(sc_tree::proofs::ViewLaws::expression_views), unfolding(sc_grammar::specs::Reading::bind, sc_grammar::specs::Reading::pure, sc_grammar::specs::Reading::takes_if, sc_grammar::specs::Reading::maybe, sc_grammar::specs::ReadingExpressions::after_name))]
     fn after_name(&mut self, start: Position, name: u32, levels: usize) -> Result<Expr, Refused>
         ensures { Gives plain result self.old self.new (reading.after_name (assigned levels) start name) }
     {
@@ -378,7 +380,7 @@ impl Reader<'_> {
     }
 
     #[cycle(expression)]
-    #[tactic(auto, using(crate::proofs::Many::turns), unfolding(crate::specs::Reading::bind, crate::specs::Reading::pure, crate::specs::Reading::next_is, crate::specs::ReadingExpressions::arguments))]
+    #[tactic(auto, using(sc_grammar::proofs::ManyLaws::turns), unfolding(sc_grammar::specs::Reading::bind, sc_grammar::specs::Reading::pure, sc_grammar::specs::Reading::next_is, sc_grammar::specs::ReadingExpressions::arguments))]
     fn arguments(&mut self, levels: usize) -> Result<Exprs, Refused>
         ensures { Gives (map plain) result self.old self.new (reading.arguments (assigned levels)) }
     {
@@ -398,7 +400,7 @@ impl Reader<'_> {
     }
 
     #[cycle(expression)]
-    #[tactic(auto, unfolding(crate::specs::Reading::bind, crate::specs::Reading::pure, crate::specs::Reading::takes_if, crate::specs::Reading::maybe, crate::specs::ReadingExpressions::one_more_argument))]
+    #[tactic(auto, unfolding(sc_grammar::specs::Reading::bind, sc_grammar::specs::Reading::pure, sc_grammar::specs::Reading::takes_if, sc_grammar::specs::Reading::maybe, sc_grammar::specs::ReadingExpressions::one_more_argument))]
     fn one_more_argument(&mut self, levels: usize) -> Result<Option<Expr>, Refused>
         ensures { Gives (option_map plain) result self.old self.new (reading.one_more_argument (assigned levels)) }
     {
@@ -410,7 +412,7 @@ impl Reader<'_> {
     }
 
     #[cycle(expression)]
-    #[tactic(auto, using(sc_tree::proofs::ViewLaws::expression_views), unfolding(crate::specs::Reading::bind, crate::specs::Reading::pure, crate::specs::Reading::here, crate::specs::Reading::maybe, crate::specs::ReadingExpressions::argument))]
+    #[tactic(auto, using(sc_tree::proofs::ViewLaws::expression_views), unfolding(sc_grammar::specs::Reading::bind, sc_grammar::specs::Reading::pure, sc_grammar::specs::Reading::here, sc_grammar::specs::Reading::maybe, sc_grammar::specs::ReadingExpressions::argument))]
     fn argument(&mut self, levels: usize) -> Result<Expr, Refused>
         ensures { Gives plain result self.old self.new (reading.argument (assigned levels)) }
     {

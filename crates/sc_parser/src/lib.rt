@@ -1,18 +1,16 @@
-//! The tree of a list of tokens.
+//! The tree of a list of tokens, by the grammar of `sc_grammar`.
 #![tactic(auto)]
 
-pub mod error;
 mod expressions;
 mod items;
 pub mod marks;
-pub mod one_tree;
 pub mod reader;
 mod stars;
 mod statements;
 mod trees;
 pub mod whole;
 
-pub use error::ParseError;
+pub use sc_grammar::ParseError;
 pub use whole::parse;
 
 #[cfg(test)]

@@ -1,39 +1,13 @@
 //! What the marks stand for in expressions.
 
 ghost use Rattle.std.specs.Prelude.{◌≡◌, Some, None};
-ghost use Rattle.sc_parser.specs.Marks as marks;
-ghost use Rattle.sc_parser.specs.Marks.{operator_of};
-ghost use Rattle.sc_parser.specs.ReadingExpressions as reading;
+ghost use Rattle.sc_grammar.specs.Marks as marks;
+ghost use Rattle.sc_grammar.specs.Marks.{operator_of};
+ghost use Rattle.sc_grammar.specs.ReadingExpressions as reading;
 
 use sc_base::Binary;
+use sc_grammar::{Assigning, Operator, Prefix};
 use sc_tree::Mark;
-
-/// An operator that joins operands. `level` tells how tightly it binds, from 0 for `*` to 9 for `||`, and `op` is
-/// None for `&&` and `||`, whose operands are not all evaluated.
-#[derive(Clone, Copy, Debug, PartialEq, Eq)]
-pub struct Operator {
-    pub level: u32,
-    pub op: Option<Binary>,
-}
-
-/// An operator that assigns: `=`, where `op` is None, or a compound one.
-#[derive(Clone, Copy, Debug, PartialEq, Eq)]
-pub struct Assigning {
-    pub op: Option<Binary>,
-}
-
-/// An operator before its operand.
-#[derive(Clone, Copy, Debug, PartialEq, Eq)]
-pub enum Prefix {
-    Minus,
-    Plus,
-    Not,
-    Invert,
-    Deref,
-    Address,
-    Up,
-    Down,
-}
 
 fn at_level(level: u32, op: Binary) -> Option<Operator>
     ensures { result ≡ Some (record { level = level; op = Some op }) }

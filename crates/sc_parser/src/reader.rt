@@ -1,48 +1,13 @@
 //! Reading tokens one after the other.
 
 ghost use Rattle.std.specs.Prelude.{◌≤◌, length};
+ghost use Rattle.sc_base.specs.declared.limits.TheConstants.{LIMITS};
 
-use crate::marks::{Assigning, Prefix, arithmetic_at, assigning_of, is_logical_at, prefix_of};
+use crate::marks::{arithmetic_at, assigning_of, is_logical_at, prefix_of};
 use sc_base::Binary;
+use sc_grammar::{Assigning, Position, Prefix, Refused};
 use sc_tree::{Mark, Token, TokenKind, Word};
-use std::alloc::{AllocError, AllocFailed, Global};
-
-/// Why nothing is read, with the number of the token from 0.
-#[derive(Debug, Drop)]
-pub enum Refused {
-    Memory,
-    Syntax(usize),
-    Deep(usize),
-}
-
-impl From<AllocError> for Refused {
-    ghost use Rattle.std.specs.Prelude.{◌≡◌};
-    ghost use Rattle.sc_parser.specs.declared.reader.Refused.TheVariants.{Memory};
-
-    ghost from_gives = { λ _ e. e ≡ Memory };
-
-    fn from(_e: AllocError) -> Refused {
-        Refused::Memory
-    }
-}
-
-impl<T: Drop> From<AllocFailed<T>> for Refused {
-    ghost use Rattle.std.specs.Prelude.{◌≡◌};
-    ghost use Rattle.sc_parser.specs.declared.reader.Refused.TheVariants.{Memory};
-
-    ghost from_gives = { λ _ e. e ≡ Memory };
-
-    fn from(_e: AllocFailed<T>) -> Refused {
-        Refused::Memory
-    }
-}
-
-/// Where a token stands: its number, from 1, and its line.
-#[derive(Clone, Copy, Debug, PartialEq, Eq)]
-pub struct Position {
-    pub at: u32,
-    pub line: u32,
-}
+use std::alloc::Global;
 
 /// The tokens, and how many of them were read.
 #[derive(Drop)]
@@ -51,17 +16,18 @@ pub struct Reader<'a> {
     pub tokens: &'a [Token],
     pub next: usize,
     ghost within: { next ≤ length tokens.now },
-    ghost few: { length tokens.now ≤ 65536 },
+    ghost few: { length tokens.now ≤ LIMITS.tokens },
 }
 
 impl Reader<'_> {
     ghost use Rattle.std.specs.Prelude.{◌≡◌, ◌<◌, ◌≤◌, length, slice_get, Some, IfSome, if◌then◌else◌};
     ghost use Rattle.std.specs.Option.{option_map};
-    ghost use Rattle.sc_parser.specs.Marks.{assigning_of, prefix_of};
-    ghost use Rattle.sc_parser.specs.Reading.{Gives, Moves, sees, of_token, mark_by, is_mark, is_word, other_than, name_in};
-    ghost use Rattle.sc_parser.specs.Reading as reading;
-    ghost use Rattle.sc_parser.specs.ReadingExpressions.{number_in, format_in, arithmetic_in, is_logical, assigning_in, prefix_in, is_prefix};
-    ghost use Rattle.sc_parser.specs.declared.reader.Refused.TheVariants.{Syntax, Deep};
+    ghost use Rattle.sc_grammar.specs.Marks.{assigning_of, prefix_of};
+    ghost use Rattle.sc_parser.specs.Returned.{Gives, Moves};
+    ghost use Rattle.sc_grammar.specs.Reading.{sees, of_token, mark_by, is_mark, is_word, other_than, name_in};
+    ghost use Rattle.sc_grammar.specs.Reading as reading;
+    ghost use Rattle.sc_grammar.specs.ReadingExpressions.{number_in, format_in, arithmetic_in, is_logical, assigning_in, prefix_in, is_prefix};
+    ghost use Rattle.sc_grammar.specs.declared.error.Refused.TheVariants.{Syntax, Deep};
 
     /// What the next token is.
     pub fn kind(&self) -> Option<TokenKind>
@@ -132,7 +98,7 @@ impl Reader<'_> {
     }
 
     /// Goes past the next token if it is this mark.
-    #[tactic(auto, unfolding(crate::specs::Reading::bind, crate::specs::Reading::pure, crate::specs::Reading::maybe, crate::specs::Reading::takes_if))]
+    #[tactic(auto, unfolding(sc_grammar::specs::Reading::bind, sc_grammar::specs::Reading::pure, sc_grammar::specs::Reading::maybe, sc_grammar::specs::Reading::takes_if))]
     pub fn takes_mark(&mut self, mark: Mark) -> bool
         ensures { Moves result self.old self.new (reading.takes_mark mark) }
     {
@@ -144,7 +110,7 @@ impl Reader<'_> {
     }
 
     /// Goes past the next token if it is this word.
-    #[tactic(auto, unfolding(crate::specs::Reading::bind, crate::specs::Reading::pure, crate::specs::Reading::maybe, crate::specs::Reading::takes_if))]
+    #[tactic(auto, unfolding(sc_grammar::specs::Reading::bind, sc_grammar::specs::Reading::pure, sc_grammar::specs::Reading::maybe, sc_grammar::specs::Reading::takes_if))]
     pub fn takes_word(&mut self, word: Word) -> bool
         ensures { Moves result self.old self.new (reading.takes_word word) }
     {
@@ -156,7 +122,7 @@ impl Reader<'_> {
     }
 
     /// Goes past the next token, which must be this mark.
-    #[tactic(auto, unfolding(crate::specs::Reading::bind, crate::specs::Reading::pure, crate::specs::Reading::fail, crate::specs::Reading::maybe, crate::specs::Reading::must))]
+    #[tactic(auto, unfolding(sc_grammar::specs::Reading::bind, sc_grammar::specs::Reading::pure, sc_grammar::specs::Reading::fail, sc_grammar::specs::Reading::maybe, sc_grammar::specs::Reading::must))]
     pub fn mark(&mut self, mark: Mark) -> Result<(), Refused>
         ensures { Gives (λ x. x) result self.old self.new (reading.mark mark) }
     {
@@ -169,7 +135,7 @@ impl Reader<'_> {
     }
 
     /// Goes past the next token, which must be this word.
-    #[tactic(auto, unfolding(crate::specs::Reading::bind, crate::specs::Reading::pure, crate::specs::Reading::fail, crate::specs::Reading::maybe, crate::specs::Reading::must))]
+    #[tactic(auto, unfolding(sc_grammar::specs::Reading::bind, sc_grammar::specs::Reading::pure, sc_grammar::specs::Reading::fail, sc_grammar::specs::Reading::maybe, sc_grammar::specs::Reading::must))]
     pub fn word(&mut self, word: Word) -> Result<(), Refused>
         ensures { Gives (λ x. x) result self.old self.new (reading.word word) }
     {
@@ -182,7 +148,7 @@ impl Reader<'_> {
     }
 
     /// Goes past the next token, which must be a name.
-    #[tactic(auto, unfolding(crate::specs::Reading::bind, crate::specs::Reading::pure, crate::specs::Reading::fail, crate::specs::Reading::must))]
+    #[tactic(auto, unfolding(sc_grammar::specs::Reading::bind, sc_grammar::specs::Reading::pure, sc_grammar::specs::Reading::fail, sc_grammar::specs::Reading::must))]
     pub fn name(&mut self) -> Result<u32, Refused>
         ensures { Gives (λ x. x) result self.old self.new reading.a_name }
     {
@@ -193,7 +159,7 @@ impl Reader<'_> {
     }
 
     /// Goes past the next token if it is a name.
-    #[tactic(auto, unfolding(crate::specs::Reading::maybe))]
+    #[tactic(auto, unfolding(sc_grammar::specs::Reading::maybe))]
     pub fn take_name(&mut self) -> Option<u32>
         ensures { Moves result self.old self.new (reading.maybe name_in) }
     {
@@ -207,7 +173,7 @@ impl Reader<'_> {
     }
 
     /// Goes past the next token if it is a number.
-    #[tactic(auto, unfolding(crate::specs::Reading::maybe))]
+    #[tactic(auto, unfolding(sc_grammar::specs::Reading::maybe))]
     pub fn take_number(&mut self) -> Option<i64>
         ensures { Moves result self.old self.new (reading.maybe number_in) }
     {
@@ -221,7 +187,7 @@ impl Reader<'_> {
     }
 
     /// Goes past the next token if it is a format.
-    #[tactic(auto, unfolding(crate::specs::Reading::maybe))]
+    #[tactic(auto, unfolding(sc_grammar::specs::Reading::maybe))]
     pub fn take_format(&mut self) -> Option<u32>
         ensures { Moves result self.old self.new (reading.maybe format_in) }
     {
@@ -235,7 +201,7 @@ impl Reader<'_> {
     }
 
     /// Goes past the next token if it is an operator of this level whose operands are all evaluated.
-    #[tactic(auto, unfolding(crate::specs::Reading::maybe))]
+    #[tactic(auto, unfolding(sc_grammar::specs::Reading::maybe))]
     pub fn take_operator(&mut self, level: u32) -> Option<Binary>
         ensures { Moves result self.old self.new (reading.maybe (arithmetic_in level)) }
     {
@@ -245,7 +211,7 @@ impl Reader<'_> {
     }
 
     /// Goes past the next token if it is `&&` and the level is 8, or `||` and the level is 9.
-    #[tactic(auto, unfolding(crate::specs::Reading::bind, crate::specs::Reading::pure, crate::specs::Reading::maybe, crate::specs::Reading::takes_if))]
+    #[tactic(auto, unfolding(sc_grammar::specs::Reading::bind, sc_grammar::specs::Reading::pure, sc_grammar::specs::Reading::maybe, sc_grammar::specs::Reading::takes_if))]
     pub fn takes_logical(&mut self, level: u32) -> bool
         ensures { Moves result self.old self.new (reading.takes_if (is_logical level)) }
     {
@@ -260,7 +226,7 @@ impl Reader<'_> {
     }
 
     /// Goes past the next token if it assigns.
-    #[tactic(auto, unfolding(crate::specs::Reading::maybe))]
+    #[tactic(auto, unfolding(sc_grammar::specs::Reading::maybe))]
     pub fn take_assigning(&mut self) -> Option<Assigning>
         ensures { Moves result self.old self.new (reading.maybe assigning_in) }
     {
@@ -270,7 +236,7 @@ impl Reader<'_> {
     }
 
     /// Goes past the next token if it is an operator before an operand.
-    #[tactic(auto, unfolding(crate::specs::Reading::maybe))]
+    #[tactic(auto, unfolding(sc_grammar::specs::Reading::maybe))]
     pub fn take_prefix(&mut self) -> Option<Prefix>
         ensures { Moves result self.old self.new (reading.maybe prefix_in) }
     {

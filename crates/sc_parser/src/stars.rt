@@ -1,29 +1,30 @@
 //! Stars, as of a pointer's type.
 
-use crate::reader::{Reader, Refused};
+use crate::reader::Reader;
 use sc_base::{Star, Stars};
+use sc_grammar::Refused;
 use sc_tree::{Mark, Word};
 
 impl Reader<'_> {
-    ghost use Rattle.sc_parser.specs.Reading.{Gives, Moves};
-    ghost use Rattle.sc_parser.specs.ReadingExpressions as reading;
+    ghost use Rattle.sc_parser.specs.Returned.{Gives, Moves};
+    ghost use Rattle.sc_grammar.specs.ReadingExpressions as reading;
 
     /// As many stars as there are.
-    #[tactic(auto, using(crate::proofs::Many::turns), unfolding(crate::specs::ReadingExpressions::stars))]
+    #[tactic(auto, using(sc_grammar::proofs::ManyLaws::turns), unfolding(sc_grammar::specs::ReadingExpressions::stars))]
     pub fn stars(&mut self) -> Result<Stars, Refused>
         ensures { Gives (λ s. s) result self.old self.new reading.stars }
     {
         let mut stars = Vec::new(self.alloc);
         for _turn in self.next..self.tokens.len() {
             let Some(star) = self.one_star() else {
-                break;
+                return Ok(Stars::from_vec(stars));
             };
             stars.push(star)?;
         }
         Ok(Stars::from_vec(stars))
     }
 
-    #[tactic(auto, unfolding(crate::specs::Reading::bind, crate::specs::Reading::pure, crate::specs::Reading::takes_if, crate::specs::Reading::maybe, crate::specs::ReadingExpressions::one_star))]
+    #[tactic(auto, unfolding(sc_grammar::specs::Reading::bind, sc_grammar::specs::Reading::pure, sc_grammar::specs::Reading::takes_if, sc_grammar::specs::Reading::maybe, sc_grammar::specs::ReadingExpressions::one_star))]
     fn one_star(&mut self) -> Option<Star>
         ensures { Moves result self.old self.new reading.one_star }
     {

@@ -5,15 +5,17 @@ ghost use Rattle.std.specs.Option.{option_map};
 ghost use Rattle.sc_tree.specs.PlainStmt.{Statement};
 ghost use Rattle.sc_tree.specs.View.{plain};
 ghost use Rattle.sc_tree.specs.ViewStmt.{plain_stmt, plain_arm, declared};
-ghost use Rattle.sc_parser.specs.Reading as reading;
-ghost use Rattle.sc_parser.specs.Reading.{Gives, Fails};
-ghost use Rattle.sc_parser.specs.ReadingExpressions as expressions;
-ghost use Rattle.sc_parser.specs.ReadingStatements as statements;
+ghost use Rattle.sc_grammar.specs.Reading as reading;
+ghost use Rattle.sc_grammar.specs.Reading.{Fails};
+ghost use Rattle.sc_grammar.specs.ReadingExpressions as expressions;
+ghost use Rattle.sc_grammar.specs.ReadingStatements as statements;
+ghost use Rattle.sc_parser.specs.Returned.{Gives};
 ghost use Rattle.sc_parser.specs.ViewParts.{plain_parts};
 
 use crate::expressions::{begins_expression, begins_mark, begins_word};
-use crate::reader::{Position, Reader, Refused};
+use crate::reader::Reader;
 use crate::trees::int_with;
+use sc_grammar::{Position, Refused};
 use sc_tree::{Arm, Block, Expr, Local, Mark, Stmt, TokenKind, Word};
 use sqlite_items::{Boxed, Items};
 
@@ -56,7 +58,7 @@ fn begins_statement_mark(mark: Mark) -> bool
 /// What is read of expressions and locals in statements.
 impl Reader<'_> {
     /// What a local begins with.
-    #[tactic(auto, unfolding(crate::specs::Reading::bind, crate::specs::Reading::pure, crate::specs::Reading::maybe, crate::specs::Reading::takes_if, crate::specs::ReadingStatements::initial))]
+    #[tactic(auto, unfolding(sc_grammar::specs::Reading::bind, sc_grammar::specs::Reading::pure, sc_grammar::specs::Reading::maybe, sc_grammar::specs::Reading::takes_if, sc_grammar::specs::ReadingStatements::initial))]
     fn initial(&mut self, levels: usize) -> Result<Option<Expr>, Refused>
         ensures moves { Gives (option_map plain) result self.old self.new (statements.initial (expressions.assigned levels)) }
     {
@@ -67,7 +69,7 @@ impl Reader<'_> {
         Ok(Some(e))
     }
 
-    #[tactic(auto, unfolding(crate::specs::Reading::bind, crate::specs::Reading::pure, crate::specs::Reading::maybe, crate::specs::Reading::takes_if, crate::specs::ReadingStatements::local, crate::specs::Reading::here))]
+    #[tactic(auto, unfolding(sc_grammar::specs::Reading::bind, sc_grammar::specs::Reading::pure, sc_grammar::specs::Reading::maybe, sc_grammar::specs::Reading::takes_if, sc_grammar::specs::ReadingStatements::local, sc_grammar::specs::Reading::here))]
     fn local(&mut self, levels: usize) -> Result<Local, Refused>
         ensures moves { Gives declared result self.old self.new (statements.local (expressions.assigned levels)) }
     {
@@ -84,7 +86,7 @@ impl Reader<'_> {
         })
     }
 
-    #[tactic(auto, unfolding(crate::specs::Reading::bind, crate::specs::Reading::pure, crate::specs::Reading::maybe, crate::specs::Reading::takes_if, crate::specs::ReadingStatements::one_more_local))]
+    #[tactic(auto, unfolding(sc_grammar::specs::Reading::bind, sc_grammar::specs::Reading::pure, sc_grammar::specs::Reading::maybe, sc_grammar::specs::Reading::takes_if, sc_grammar::specs::ReadingStatements::one_more_local))]
     fn one_more_local(&mut self, levels: usize) -> Result<Option<Local>, Refused>
         ensures moves { Gives (option_map declared) result self.old self.new (statements.one_more_local (expressions.assigned levels)) }
     {
@@ -96,7 +98,7 @@ impl Reader<'_> {
     }
 
     /// The locals behind an `int`.
-    #[tactic(auto, using(sc_tree::proofs::ViewStmtLaws::statement_views, crate::proofs::ManyLaws::turns), unfolding(crate::specs::Reading::bind, crate::specs::Reading::pure, crate::specs::Reading::maybe, crate::specs::Reading::takes_if, crate::specs::ReadingStatements::locals, crate::specs::Reading::many))]
+    #[tactic(auto, using(sc_tree::proofs::ViewStmtLaws::statement_views, sc_grammar::proofs::ManyLaws::turns), unfolding(sc_grammar::specs::Reading::bind, sc_grammar::specs::Reading::pure, sc_grammar::specs::Reading::maybe, sc_grammar::specs::Reading::takes_if, sc_grammar::specs::ReadingStatements::locals, sc_grammar::specs::Reading::many))]
     fn locals(&mut self, levels: usize) -> Result<Stmt, Refused>
         ensures moves { Gives plain_stmt result self.old self.new (statements.locals (expressions.assigned levels)) }
     {
@@ -114,7 +116,7 @@ impl Reader<'_> {
     }
 
     /// An expression that may be left out before this mark.
-    #[tactic(auto, unfolding(crate::specs::Reading::bind, crate::specs::Reading::pure, crate::specs::Reading::maybe, crate::specs::Reading::takes_if, crate::specs::ReadingStatements::optional_before, crate::specs::Reading::next_is))]
+    #[tactic(auto, unfolding(sc_grammar::specs::Reading::bind, sc_grammar::specs::Reading::pure, sc_grammar::specs::Reading::maybe, sc_grammar::specs::Reading::takes_if, sc_grammar::specs::ReadingStatements::optional_before, sc_grammar::specs::Reading::next_is))]
     fn optional_before(&mut self, mark: Mark, levels: usize) -> Result<Option<Expr>, Refused>
         ensures moves { Gives (option_map plain) result self.old self.new (statements.optional_before (expressions.assigned levels) mark) }
     {
@@ -126,7 +128,7 @@ impl Reader<'_> {
     }
 
     /// The expression in parentheses that an `if` or a loop tests.
-    #[tactic(auto, unfolding(crate::specs::Reading::bind, crate::specs::Reading::pure, crate::specs::Reading::maybe, crate::specs::Reading::takes_if, crate::specs::ReadingStatements::test))]
+    #[tactic(auto, unfolding(sc_grammar::specs::Reading::bind, sc_grammar::specs::Reading::pure, sc_grammar::specs::Reading::maybe, sc_grammar::specs::Reading::takes_if, sc_grammar::specs::ReadingStatements::test))]
     fn test(&mut self, levels: usize) -> Result<Expr, Refused>
         ensures moves { Gives plain result self.old self.new (statements.test (expressions.assigned levels)) }
     {
@@ -137,7 +139,7 @@ impl Reader<'_> {
     }
 
     /// The right side of a `:=` or `:-`.
-    #[tactic(auto, using(sc_tree::proofs::ViewStmtLaws::statement_views), unfolding(crate::specs::Reading::bind, crate::specs::Reading::pure, crate::specs::Reading::maybe, crate::specs::Reading::takes_if, crate::specs::ReadingStatements::split_after))]
+    #[tactic(auto, using(sc_tree::proofs::ViewStmtLaws::statement_views), unfolding(sc_grammar::specs::Reading::bind, sc_grammar::specs::Reading::pure, sc_grammar::specs::Reading::maybe, sc_grammar::specs::Reading::takes_if, sc_grammar::specs::ReadingStatements::split_after))]
     fn split_after(
         &mut self,
         oneway: bool,
@@ -158,7 +160,7 @@ impl Reader<'_> {
         })
     }
 
-    #[tactic(auto, using(sc_tree::proofs::ViewStmtLaws::statement_views), unfolding(crate::specs::Reading::bind, crate::specs::Reading::pure, crate::specs::Reading::maybe, crate::specs::Reading::takes_if, crate::specs::ReadingStatements::by_expression, crate::specs::Reading::here, crate::specs::Reading::fail))]
+    #[tactic(auto, using(sc_tree::proofs::ViewStmtLaws::statement_views), unfolding(sc_grammar::specs::Reading::bind, sc_grammar::specs::Reading::pure, sc_grammar::specs::Reading::maybe, sc_grammar::specs::Reading::takes_if, sc_grammar::specs::ReadingStatements::by_expression, sc_grammar::specs::Reading::here, sc_grammar::specs::Reading::fail))]
     fn by_expression(&mut self, levels: usize) -> Result<Stmt, Refused>
         ensures moves { Gives plain_stmt result self.old self.new (statements.by_expression (expressions.assigned levels)) }
     {
@@ -176,7 +178,7 @@ impl Reader<'_> {
         Err(self.unexpected())
     }
 
-    #[tactic(auto, using(sc_tree::proofs::ViewStmtLaws::statement_views), unfolding(crate::specs::Reading::bind, crate::specs::Reading::pure, crate::specs::Reading::maybe, crate::specs::Reading::takes_if, crate::specs::ReadingStatements::return_after))]
+    #[tactic(auto, using(sc_tree::proofs::ViewStmtLaws::statement_views), unfolding(sc_grammar::specs::Reading::bind, sc_grammar::specs::Reading::pure, sc_grammar::specs::Reading::maybe, sc_grammar::specs::Reading::takes_if, sc_grammar::specs::ReadingStatements::return_after))]
     fn return_after(&mut self, own: Position, levels: usize) -> Result<Stmt, Refused>
         ensures moves { Gives plain_stmt result self.old self.new (statements.return_after (expressions.assigned levels) own) }
     {
@@ -190,7 +192,7 @@ impl Reader<'_> {
     }
 
     /// A statement that has no statement inside.
-    #[tactic(auto, using(sc_tree::proofs::ViewStmtLaws::statement_views), unfolding(crate::specs::Reading::bind, crate::specs::Reading::pure, crate::specs::Reading::maybe, crate::specs::Reading::takes_if, crate::specs::ReadingStatements::by_other_word))]
+    #[tactic(auto, using(sc_tree::proofs::ViewStmtLaws::statement_views), unfolding(sc_grammar::specs::Reading::bind, sc_grammar::specs::Reading::pure, sc_grammar::specs::Reading::maybe, sc_grammar::specs::Reading::takes_if, sc_grammar::specs::ReadingStatements::by_other_word))]
     fn by_other_word(&mut self, own: Position, levels: usize) -> Result<Stmt, Refused>
         ensures moves { Gives plain_stmt result self.old self.new (statements.by_other_word (expressions.assigned levels) (statements.statement levels) own) }
     {
@@ -220,7 +222,7 @@ struct Parts {
 /// What is read in the parentheses of a `for`.
 impl Reader<'_> {
     /// An expression that may be left out, and this mark behind it.
-    #[tactic(auto, unfolding(crate::specs::Reading::bind, crate::specs::Reading::pure, crate::specs::Reading::maybe, crate::specs::Reading::takes_if, crate::specs::ReadingStatements::optional_until))]
+    #[tactic(auto, unfolding(sc_grammar::specs::Reading::bind, sc_grammar::specs::Reading::pure, sc_grammar::specs::Reading::maybe, sc_grammar::specs::Reading::takes_if, sc_grammar::specs::ReadingStatements::optional_until))]
     fn optional_until(&mut self, mark: Mark, levels: usize) -> Result<Option<Expr>, Refused>
         ensures moves { Gives (option_map plain) result self.old self.new (statements.optional_until (expressions.assigned levels) mark) }
     {
@@ -229,7 +231,7 @@ impl Reader<'_> {
         Ok(e)
     }
 
-    #[tactic(auto, unfolding(crate::specs::Reading::bind, crate::specs::Reading::pure, crate::specs::Reading::maybe, crate::specs::Reading::takes_if, crate::specs::ReadingStatements::for_parts))]
+    #[tactic(auto, unfolding(sc_grammar::specs::Reading::bind, sc_grammar::specs::Reading::pure, sc_grammar::specs::Reading::maybe, sc_grammar::specs::Reading::takes_if, sc_grammar::specs::ReadingStatements::for_parts))]
     fn for_parts(&mut self, levels: usize) -> Result<Parts, Refused>
         ensures moves { Gives plain_parts result self.old self.new (statements.for_parts (expressions.assigned levels)) }
     {
@@ -250,7 +252,7 @@ impl Reader<'_> {
     }
 
     /// The refusal of a statement that is too deep.
-    #[tactic(auto, unfolding(crate::specs::Reading::bind, crate::specs::Reading::pure, crate::specs::Reading::maybe, crate::specs::Reading::takes_if, crate::specs::Reading::next_is, crate::specs::Reading::too_deep, crate::specs::Reading::fail))]
+    #[tactic(auto, unfolding(sc_grammar::specs::Reading::bind, sc_grammar::specs::Reading::pure, sc_grammar::specs::Reading::maybe, sc_grammar::specs::Reading::takes_if, sc_grammar::specs::Reading::next_is, sc_grammar::specs::Reading::too_deep, sc_grammar::specs::Reading::fail))]
     fn no_deeper_statement(&self) -> Refused
         ensures { Fails {A = Statement} result (reading.no_deeper statements.begins_statement self.now.tokens.now self.now.next) }
     {
@@ -262,7 +264,7 @@ impl Reader<'_> {
     }
 
     #[cycle(statement)]
-    #[tactic(auto, using(sc_tree::proofs::ViewStmtLaws::statement_views), unfolding(crate::specs::Reading::bind, crate::specs::Reading::pure, crate::specs::Reading::maybe, crate::specs::Reading::takes_if, crate::specs::ReadingStatements::statement, crate::specs::ReadingStatements::statement_by, crate::specs::Reading::here))]
+    #[tactic(auto, using(sc_tree::proofs::ViewStmtLaws::statement_views), unfolding(sc_grammar::specs::Reading::bind, sc_grammar::specs::Reading::pure, sc_grammar::specs::Reading::maybe, sc_grammar::specs::Reading::takes_if, sc_grammar::specs::ReadingStatements::statement, sc_grammar::specs::ReadingStatements::statement_by, sc_grammar::specs::Reading::here))]
     fn statement(&mut self, levels: usize) -> Result<Stmt, Refused>
         ensures moves { Gives plain_stmt result self.old self.new (statements.statement levels) }
     {
@@ -286,7 +288,7 @@ impl Reader<'_> {
 
     /// The locals and statements of a block, and its last brace.
     #[cycle(statement)]
-    #[tactic(auto, using(crate::proofs::ManyLaws::turns), unfolding(crate::specs::Reading::bind, crate::specs::Reading::pure, crate::specs::Reading::maybe, crate::specs::Reading::takes_if, crate::specs::ReadingStatements::block_after, crate::specs::Reading::many))]
+    #[tactic(auto, using(sc_grammar::proofs::ManyLaws::turns), unfolding(sc_grammar::specs::Reading::bind, sc_grammar::specs::Reading::pure, sc_grammar::specs::Reading::maybe, sc_grammar::specs::Reading::takes_if, sc_grammar::specs::ReadingStatements::block_after, sc_grammar::specs::Reading::many))]
     pub fn block_after(&mut self, levels: usize) -> Result<Block, Refused>
         ensures moves { Gives (map plain_stmt) result self.old self.new (statements.block_after (expressions.assigned levels) (statements.statement levels)) }
     {
@@ -302,7 +304,7 @@ impl Reader<'_> {
     }
 
     #[cycle(statement)]
-    #[tactic(auto, unfolding(crate::specs::Reading::bind, crate::specs::Reading::pure, crate::specs::Reading::maybe, crate::specs::Reading::takes_if, crate::specs::ReadingStatements::one_part, crate::specs::Reading::next_is))]
+    #[tactic(auto, unfolding(sc_grammar::specs::Reading::bind, sc_grammar::specs::Reading::pure, sc_grammar::specs::Reading::maybe, sc_grammar::specs::Reading::takes_if, sc_grammar::specs::ReadingStatements::one_part, sc_grammar::specs::Reading::next_is))]
     fn one_part(&mut self, levels: usize) -> Result<Option<Stmt>, Refused>
         ensures moves { Gives (option_map plain_stmt) result self.old self.new (statements.one_part (expressions.assigned levels) (statements.statement levels)) }
     {
@@ -317,7 +319,6 @@ impl Reader<'_> {
         Ok(Some(part))
     }
 
-    /// The test behind an `if`, and the statement that it guards.
     /// A statement that stands inside another.
     #[cycle(statement)]
     fn inner(&mut self, levels: usize) -> Result<Boxed<Stmt>, Refused>
@@ -327,8 +328,9 @@ impl Reader<'_> {
         Ok(Boxed::new(self.alloc, body)?)
     }
 
+    /// The test behind an `if`, and the statement that it guards.
     #[cycle(statement)]
-    #[tactic(auto, using(sc_tree::proofs::ViewStmtLaws::statement_views), unfolding(crate::specs::Reading::bind, crate::specs::Reading::pure, crate::specs::Reading::maybe, crate::specs::Reading::takes_if, crate::specs::ReadingStatements::arm_after))]
+    #[tactic(auto, using(sc_tree::proofs::ViewStmtLaws::statement_views), unfolding(sc_grammar::specs::Reading::bind, sc_grammar::specs::Reading::pure, sc_grammar::specs::Reading::maybe, sc_grammar::specs::Reading::takes_if, sc_grammar::specs::ReadingStatements::arm_after))]
     fn arm_after(&mut self, levels: usize) -> Result<Arm, Refused>
         ensures moves { Gives plain_arm result self.old self.new (statements.arm_after (expressions.assigned levels) (statements.statement levels)) }
     {
@@ -338,7 +340,7 @@ impl Reader<'_> {
     }
 
     #[cycle(statement)]
-    #[tactic(auto, using(sc_tree::proofs::ViewStmtLaws::statement_views, crate::proofs::ElsesLaws::elses_turns), unfolding(crate::specs::Reading::bind, crate::specs::Reading::pure, crate::specs::Reading::maybe, crate::specs::Reading::takes_if, crate::specs::ReadingStatements::if_after, crate::specs::ReadingStatements::elses))]
+    #[tactic(auto, using(sc_tree::proofs::ViewStmtLaws::statement_views, sc_grammar::proofs::ElsesLaws::elses_turns), unfolding(sc_grammar::specs::Reading::bind, sc_grammar::specs::Reading::pure, sc_grammar::specs::Reading::maybe, sc_grammar::specs::Reading::takes_if, sc_grammar::specs::ReadingStatements::if_after, sc_grammar::specs::ReadingStatements::elses))]
     fn if_after(&mut self, levels: usize) -> Result<Stmt, Refused>
         ensures moves { Gives plain_stmt result self.old self.new (statements.if_after (expressions.assigned levels) (statements.statement levels)) }
     {
@@ -363,7 +365,7 @@ impl Reader<'_> {
     }
 
     #[cycle(statement)]
-    #[tactic(auto, using(sc_tree::proofs::ViewStmtLaws::statement_views), unfolding(crate::specs::Reading::bind, crate::specs::Reading::pure, crate::specs::Reading::maybe, crate::specs::Reading::takes_if, crate::specs::ReadingStatements::by_loop_word))]
+    #[tactic(auto, using(sc_tree::proofs::ViewStmtLaws::statement_views), unfolding(sc_grammar::specs::Reading::bind, sc_grammar::specs::Reading::pure, sc_grammar::specs::Reading::maybe, sc_grammar::specs::Reading::takes_if, sc_grammar::specs::ReadingStatements::by_loop_word))]
     fn by_loop_word(&mut self, own: Position, levels: usize) -> Result<Stmt, Refused>
         ensures moves { Gives plain_stmt result self.old self.new (statements.by_loop_word (expressions.assigned levels) (statements.statement levels) own) }
     {
@@ -383,7 +385,7 @@ impl Reader<'_> {
     }
 
     #[cycle(statement)]
-    #[tactic(auto, using(sc_tree::proofs::ViewStmtLaws::statement_views), unfolding(crate::specs::Reading::bind, crate::specs::Reading::pure, crate::specs::Reading::maybe, crate::specs::Reading::takes_if, crate::specs::ReadingStatements::while_after))]
+    #[tactic(auto, using(sc_tree::proofs::ViewStmtLaws::statement_views), unfolding(sc_grammar::specs::Reading::bind, sc_grammar::specs::Reading::pure, sc_grammar::specs::Reading::maybe, sc_grammar::specs::Reading::takes_if, sc_grammar::specs::ReadingStatements::while_after))]
     fn while_after(&mut self, levels: usize) -> Result<Stmt, Refused>
         ensures moves { Gives plain_stmt result self.old self.new (statements.while_after (expressions.assigned levels) (statements.statement levels)) }
     {
@@ -393,7 +395,7 @@ impl Reader<'_> {
     }
 
     #[cycle(statement)]
-    #[tactic(auto, using(sc_tree::proofs::ViewStmtLaws::statement_views), unfolding(crate::specs::Reading::bind, crate::specs::Reading::pure, crate::specs::Reading::maybe, crate::specs::Reading::takes_if, crate::specs::ReadingStatements::do_after))]
+    #[tactic(auto, using(sc_tree::proofs::ViewStmtLaws::statement_views), unfolding(sc_grammar::specs::Reading::bind, sc_grammar::specs::Reading::pure, sc_grammar::specs::Reading::maybe, sc_grammar::specs::Reading::takes_if, sc_grammar::specs::ReadingStatements::do_after))]
     fn do_after(&mut self, levels: usize) -> Result<Stmt, Refused>
         ensures moves { Gives plain_stmt result self.old self.new (statements.do_after (expressions.assigned levels) (statements.statement levels)) }
     {
@@ -405,7 +407,7 @@ impl Reader<'_> {
     }
 
     #[cycle(statement)]
-    #[tactic(auto, using(sc_tree::proofs::ViewStmtLaws::statement_views, crate::proofs::ForLaws::for_is), unfolding(crate::specs::Reading::bind, crate::specs::Reading::pure, crate::specs::Reading::maybe, crate::specs::Reading::takes_if))]
+    #[tactic(auto, using(sc_tree::proofs::ViewStmtLaws::statement_views, sc_grammar::proofs::ForLaws::for_is), unfolding(sc_grammar::specs::Reading::bind, sc_grammar::specs::Reading::pure, sc_grammar::specs::Reading::maybe, sc_grammar::specs::Reading::takes_if))]
     fn for_after(&mut self, levels: usize) -> Result<Stmt, Refused>
         ensures moves { Gives plain_stmt result self.old self.new (statements.for_after (expressions.assigned levels) (statements.statement levels)) }
     {
@@ -421,7 +423,7 @@ impl Reader<'_> {
     }
 
     #[cycle(statement)]
-    #[tactic(auto, using(sc_tree::proofs::ViewStmtLaws::statement_views), unfolding(crate::specs::Reading::bind, crate::specs::Reading::pure, crate::specs::Reading::maybe, crate::specs::Reading::takes_if, crate::specs::ReadingStatements::for_mine_after, crate::specs::Reading::here))]
+    #[tactic(auto, using(sc_tree::proofs::ViewStmtLaws::statement_views), unfolding(sc_grammar::specs::Reading::bind, sc_grammar::specs::Reading::pure, sc_grammar::specs::Reading::maybe, sc_grammar::specs::Reading::takes_if, sc_grammar::specs::ReadingStatements::for_mine_after, sc_grammar::specs::Reading::here))]
     fn for_mine_after(&mut self, levels: usize) -> Result<Stmt, Refused>
         ensures moves { Gives plain_stmt result self.old self.new (statements.for_mine_after (expressions.assigned levels) (statements.statement levels)) }
     {

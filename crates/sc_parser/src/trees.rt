@@ -3,14 +3,13 @@
 ghost use Rattle.std.specs.Prelude.{◌≡◌, IfOk, map};
 ghost use Rattle.sc_tree.specs.Plain as plain;
 ghost use Rattle.sc_tree.specs.View.{plain, plain_kind, plain_link, plain_tail, expressions_of, links_of, tails_of};
-ghost use Rattle.sc_parser.specs.Marks.{prefixed};
-ghost use Rattle.sc_parser.specs.Expressions as expressions;
-ghost use Rattle.sc_parser.specs.ReadingExpressions as reading;
-ghost use Rattle.sc_parser.specs.Statements as statements;
+ghost use Rattle.sc_grammar.specs.Marks.{prefixed};
+ghost use Rattle.sc_grammar.specs.Expressions as expressions;
+ghost use Rattle.sc_grammar.specs.ReadingExpressions as reading;
+ghost use Rattle.sc_grammar.specs.Statements as statements;
 
-use crate::marks::Prefix;
-use crate::reader::Position;
 use sc_base::{Binary, Stars, Ty, Unary};
+use sc_grammar::{Position, Prefix};
 use sc_tree::{Expr, ExprKind, Exprs, Links, Tails};
 use sqlite_items::{Boxed, Items};
 use std::alloc::{AllocError, Global};
@@ -95,7 +94,7 @@ pub fn around(start: Position, inner: Expr) -> Expr
 }
 
 /// A chain of operands, or the only one.
-#[tactic(auto, using(crate::proofs::Joined::joined, sc_tree::proofs::ViewLaws::expression_views))]
+#[tactic(auto, using(sc_grammar::proofs::Joined::joined, sc_tree::proofs::ViewLaws::expression_views))]
 pub fn chained(alloc: Global, start: Position, first: Expr, rest: Links) -> Result<Expr, AllocError>
     ensures { IfOk result (λ e. plain e ≡ expressions.chained start.at start.line (plain first) (links_of (map plain_link rest))) }
 {
@@ -107,7 +106,7 @@ pub fn chained(alloc: Global, start: Position, first: Expr, rest: Links) -> Resu
 }
 
 /// The operands of `&&` where the level is 8, and else of `||`, or the only operand.
-#[tactic(auto, using(crate::proofs::Joined::joined, sc_tree::proofs::ViewLaws::expression_views))]
+#[tactic(auto, using(sc_grammar::proofs::Joined::joined, sc_tree::proofs::ViewLaws::expression_views))]
 pub fn listed(
     alloc: Global,
     level: u32,
@@ -132,7 +131,7 @@ pub fn listed(
 }
 
 /// An expression with what stands behind it, if anything does.
-#[tactic(auto, using(crate::proofs::Joined::joined, sc_tree::proofs::ViewLaws::expression_views))]
+#[tactic(auto, using(sc_grammar::proofs::Joined::joined, sc_tree::proofs::ViewLaws::expression_views))]
 pub fn tailed(alloc: Global, start: Position, first: Expr, tails: Tails) -> Result<Expr, AllocError>
     ensures { IfOk result (λ e. plain e ≡ expressions.tailed start.at start.line (plain first) (tails_of (map plain_tail tails))) }
 {

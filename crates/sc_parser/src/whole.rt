@@ -2,34 +2,36 @@
 
 ghost use Rattle.std.specs.Prelude.{◌≡◌, ◌≤◌, ◌+◌, List, length, map, IfOk, IfErr, OnOk, MatchResult};
 ghost use Rattle.sc_tree.specs.PlainTree.{PlainTree};
-ghost use Rattle.sc_parser.specs.Rest.{Spelt, tokens_of};
-ghost use Rattle.sc_parser.specs.Sentence.{Sentence, Spells, AllShallow, Shallow, Says, Accepts};
+ghost use Rattle.sc_grammar.specs.Rest.{Spelt, tokens_of};
+ghost use Rattle.sc_grammar.specs.Sentence.{Sentence, Spells, AllShallow, Shallow, Says, Accepts};
 ghost use Rattle.std.specs.Option.{option_map};
 ghost use Rattle.sc_tree.specs.ViewTree.{plain_tree};
-ghost use Rattle.sc_parser.specs.Reading.{Gives, Fails};
-ghost use Rattle.sc_parser.specs.ReadingItems as items;
-ghost use Rattle.sc_parser.specs.Sentence as sentence;
+ghost use Rattle.sc_grammar.specs.Reading.{Fails};
+ghost use Rattle.sc_parser.specs.Returned.{Gives};
+ghost use Rattle.sc_grammar.specs.ReadingItems as items;
+ghost use Rattle.sc_grammar.specs.Sentence as sentence;
+ghost use Rattle.sc_parser.specs.ViewFound.{plain_found};
 ghost use Rattle.sc_parser.specs.ViewItem.{plain_item};
-ghost use Rattle.sc_parser.specs.ReadingWhole as whole;
-ghost use Rattle.sc_parser.specs.ReadingWhole.{plain_found, ReadSorted, ReadTree};
+ghost use Rattle.sc_grammar.specs.ReadingWhole as whole;
+ghost use Rattle.sc_grammar.specs.ReadingWhole.{ReadSorted, ReadTree};
 
-use crate::error::ParseError;
 use crate::items::Item;
-use crate::reader::{Reader, Refused};
+use crate::reader::Reader;
 use sc_base::LIMITS;
+use sc_grammar::{ParseError, Refused};
 use sc_tree::{Function, Functions, Lines, Shapes, Token, Tree};
 use sqlite_items::Items;
 use std::alloc::{AllocError, Global};
 
 /// The deepest that a token may be.
-const DEPTH: usize = 64;
+const DEPTH: usize = LIMITS.depth as usize;
 
 /// The one tree of the tokens, of which there are at most 65,536.
 ///
 /// Where the tokens are a sentence and none is deeper than 64, the answer is its tree, or memory was wanting; every
 /// other answer but want of memory is the refusal at the token that `ParseError` says.
 pub fn parse(alloc: Global, tokens: &[Token]) -> Result<Tree, ParseError>
-    requires { length tokens.now ≤ 65536 }
+    requires { length tokens.now ≤ LIMITS.tokens }
     ensures tree { IfOk result (λ t. Sentence tokens.now (plain_tree t)) }
     ensures shallow { IfOk result (λ t. Shallow DEPTH tokens.now (length tokens.now + 1)) }
     ensures accepted { (us : List Spelt) (t : PlainTree) → tokens_of us ≡ tokens.now → Spells us t → AllShallow DEPTH (length us) us → Accepts t result }
@@ -45,7 +47,7 @@ pub fn parse(alloc: Global, tokens: &[Token]) -> Result<Tree, ParseError>
 
 /// The number of a token, from 1, or one more than there are.
 fn counted(at: usize) -> u32
-    requires { at ≤ 65536 }
+    requires { at ≤ LIMITS.tokens }
     ensures { result ≡ at + 1 }
 {
     at as u32 + 1
@@ -53,7 +55,7 @@ fn counted(at: usize) -> u32
 
 /// The tree of the items, with the lines of the tokens.
 fn tree(alloc: Global, tokens: &[Token]) -> Result<Tree, Refused>
-    requires { length tokens.now ≤ 65536 }
+    requires { length tokens.now ≤ LIMITS.tokens }
     ensures { MatchResult result (λ t. ReadTree DEPTH tokens.now (plain_tree t)) (λ e. Fails e (items.items DEPTH tokens.now 0)) }
 {
     let found = read_items(alloc, tokens)?;
@@ -87,7 +89,7 @@ impl Found {
 /// What is read of a whole source.
 impl Reader<'_> {
     /// An item, where a token is left.
-    #[tactic(auto, unfolding(crate::specs::Reading::bind, crate::specs::Reading::pure, crate::specs::Reading::maybe, crate::specs::Reading::takes_if, crate::specs::Reading::next_is, crate::specs::ReadingItems::one_more_item))]
+    #[tactic(auto, unfolding(sc_grammar::specs::Reading::bind, sc_grammar::specs::Reading::pure, sc_grammar::specs::Reading::maybe, sc_grammar::specs::Reading::takes_if, sc_grammar::specs::Reading::next_is, sc_grammar::specs::ReadingItems::one_more_item))]
     fn one_more_item(&mut self) -> Result<Option<Item>, Refused>
         ensures moves { Gives (option_map plain_item) result self.old self.new (items.one_more_item DEPTH) }
     {
@@ -99,7 +101,7 @@ impl Reader<'_> {
     }
 
     /// What all the tokens declare.
-    #[tactic(auto, using(crate::proofs::WholeLaws::item_turns), unfolding(crate::specs::Reading::bind, crate::specs::Reading::pure, crate::specs::Reading::maybe, crate::specs::Reading::takes_if, crate::specs::Reading::many, crate::specs::ReadingItems::items, crate::specs::ReadingWhole::sorted_items))]
+    #[tactic(auto, using(sc_grammar::proofs::WholeLaws::item_turns), unfolding(sc_grammar::specs::Reading::bind, sc_grammar::specs::Reading::pure, sc_grammar::specs::Reading::maybe, sc_grammar::specs::Reading::takes_if, sc_grammar::specs::Reading::many, sc_grammar::specs::ReadingItems::items, sc_grammar::specs::ReadingWhole::sorted_items))]
     fn all_items(&mut self) -> Result<Found, Refused>
         ensures moves { Gives plain_found result self.old self.new (whole.sorted_items DEPTH) }
     {
@@ -120,9 +122,9 @@ impl Reader<'_> {
 }
 
 /// What all the tokens declare.
-#[tactic(auto, using(crate::proofs::WholeLaws::all_items))]
+#[tactic(auto, using(sc_grammar::proofs::WholeLaws::all_items))]
 fn read_items(alloc: Global, tokens: &[Token]) -> Result<Found, Refused>
-    requires { length tokens.now ≤ 65536 }
+    requires { length tokens.now ≤ LIMITS.tokens }
     ensures { MatchResult result (λ f. ReadSorted DEPTH tokens.now (plain_found f)) (λ e. Fails e (items.items DEPTH tokens.now 0)) }
 {
     let mut reader = Reader {
@@ -141,7 +143,7 @@ fn lines_of(alloc: Global, tokens: &[Token]) -> Result<Lines, AllocError>
     Ok(Items::from_vec(lines))
 }
 
-#[tactic(auto, using(crate::proofs::WholeLaws::last_lines))]
+#[tactic(auto, using(sc_grammar::proofs::WholeLaws::last_lines))]
 fn last_line(tokens: &[Token]) -> u32
     ensures { result ≡ sentence.last_line tokens.now }
 {

@@ -1,11 +1,11 @@
 use Rattle.std.proofs.Common.{◌≡◌, subst, sym, arith, ℕ}
-use Rattle.sc_parser.specs.Reading.{syntax, deep, refused, Fails}
-use Rattle.sc_parser.specs.ReadingItems.{items}
-use Rattle.sc_parser.specs.declared.reader.Refused.{Refused}
-use Rattle.sc_parser.specs.declared.reader.Refused.TheVariants as kind
+use Rattle.sc_grammar.specs.Reading.{syntax, deep, refused, Fails}
+use Rattle.sc_grammar.specs.ReadingItems.{items}
+use Rattle.sc_grammar.specs.declared.error.Refused.{Refused}
+use Rattle.sc_grammar.specs.declared.error.Refused.TheVariants as kind
 use Rattle.sc_parser.specs.declared.whole.TheConstants.{DEPTH}
-use Rattle.sc_parser.specs.Sentence.{IsSyntax, IsTooDeep}
-use Rattle.sc_parser.proofs.Parsed.{read-sentence, read-shallow, read-accepts, fails-memory, fails-syntax, fails-deep, syntax-near, deep-near}
+use Rattle.sc_grammar.specs.Sentence.{IsSyntax, IsTooDeep}
+use Rattle.sc_grammar.proofs.Parsed.{read-sentence, read-shallow, read-accepts, fails-memory, fails-syntax, fails-deep, syntax-near, deep-near}
 use Rattle.sc_parser.proofs.whole.parse.Goals as goal
 
 pub returns-in-Ok-clause-tree : goal.returns-in-Ok-clause-tree

@@ -1,7 +1,7 @@
-use Rattle.std.proofs.Common.{◌≡◌, ◌-◌, ◌<◌, ap, arith}
+use Rattle.std.proofs.Common.{ap, arith}
 use Rattle.std.proofs.lemmas.Result.{err_from_is_err_and}
-use Rattle.sc_parser.specs.ReadingItems.{bound, one_summand, one_factor, sum, product}
-use Rattle.sc_parser.proofs.StepsLaws.{steps-refused}
+use Rattle.sc_grammar.specs.ReadingItems.{bound, one_summand, one_factor}
+use Rattle.sc_grammar.proofs.StepsLaws.{steps-refused}
 use Rattle.sc_parser.proofs.reader.Reader.+bound.Goals as goal
 
 pub product-returns-in_err-more : goal.product-returns-in_err-more

@@ -1,7 +1,7 @@
 use Rattle.std.proofs.Common.{◌≡◌, ◌+◌, ◌-◌, ◌*◌}
-use Rattle.sc_parser.specs.Reading.{many_by}
-use Rattle.sc_parser.specs.ReadingItems.{bound, sum, product, one_summand, one_factor}
-use Rattle.sc_parser.proofs.StepsLaws.{with_steps}
+use Rattle.sc_grammar.specs.Reading.{many_by}
+use Rattle.sc_grammar.specs.ReadingItems.{bound, sum, product, one_summand, one_factor}
+use Rattle.sc_grammar.proofs.StepsLaws.{with_steps}
 use Rattle.sc_parser.proofs.reader.Reader.+bound.Given as goal
 
 abbrev pub decreases-bound : goal.decreases-bound

@@ -1,10 +1,10 @@
 use Rattle.std.proofs.Common.{◌≡◌, ◌+◌, ◌-◌, ◌*◌, map}
 use Rattle.sc_tree.specs.ViewStmt.{plain_stmt, plain_arm}
 use Rattle.sc_tree.specs.declared.token.Mark.TheVariants as marks
-use Rattle.sc_parser.specs.Reading.{got, and_then, mark, many_by, with_front}
-use Rattle.sc_parser.specs.ReadingExpressions.{assigned}
-use Rattle.sc_parser.specs.ReadingStatements.{statement, block_after, one_part, if_after, elses_by}
-use Rattle.sc_parser.proofs.ElsesLaws.{with_arms, if_all}
+use Rattle.sc_grammar.specs.Reading.{got, and_then, mark, many_by, with_front}
+use Rattle.sc_grammar.specs.ReadingExpressions.{assigned}
+use Rattle.sc_grammar.specs.ReadingStatements.{statement, block_after, one_part, if_after, elses_by}
+use Rattle.sc_grammar.proofs.ElsesLaws.{with_arms, if_all}
 use Rattle.sc_parser.proofs.reader.Reader.+statement.Given as goal
 
 abbrev pub decreases-statement : goal.decreases-statement

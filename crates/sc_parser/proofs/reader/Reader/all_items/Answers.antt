@@ -1,11 +1,11 @@
-use Rattle.std.proofs.Common.{◌≡◌, ◌-◌, ◌+◌, ◌<◌, ap, sym, ◌∙◌, arith}
+use Rattle.std.proofs.Common.{ap, ◌∙◌, arith}
 use Rattle.std.specs.Option.{option_map}
 use Rattle.sc_parser.specs.declared.whole.TheConstants.{DEPTH}
-use Rattle.sc_parser.specs.Reading.{got}
-use Rattle.sc_parser.specs.ReadingItems.{one_more_item}
-use Rattle.sc_parser.specs.ReadingWhole.{plain_found}
+use Rattle.sc_grammar.specs.Reading.{got}
+use Rattle.sc_grammar.specs.ReadingItems.{one_more_item}
+use Rattle.sc_parser.specs.ViewFound.{plain_found}
 use Rattle.sc_parser.specs.ViewItem.{plain_item}
-use Rattle.sc_parser.proofs.WholeLaws.{items_found}
+use Rattle.sc_grammar.proofs.WholeLaws.{items_found}
 use Rattle.sc_parser.proofs.reader.Reader.all_items.Goals as goal
 
 pub loop-turn-preserved : goal.loop-turn-preserved

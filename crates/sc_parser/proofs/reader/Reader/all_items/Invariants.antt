@@ -1,9 +1,10 @@
 use Rattle.std.proofs.Common.{◌≡◌, ◌-◌}
 use Rattle.sc_parser.specs.declared.whole.TheConstants.{DEPTH}
-use Rattle.sc_parser.specs.Reading.{many_by}
-use Rattle.sc_parser.specs.ReadingItems.{one_more_item}
-use Rattle.sc_parser.specs.ReadingWhole.{plain_found, sorted_items}
-use Rattle.sc_parser.proofs.WholeLaws.{with_sorted}
+use Rattle.sc_grammar.specs.Reading.{many_by}
+use Rattle.sc_grammar.specs.ReadingItems.{one_more_item}
+use Rattle.sc_grammar.specs.ReadingWhole.{sorted_items}
+use Rattle.sc_parser.specs.ViewFound.{plain_found}
+use Rattle.sc_grammar.proofs.WholeLaws.{with_sorted}
 use Rattle.sc_parser.proofs.reader.Reader.all_items.Given as goal
 
 abbrev pub invariant-loop-turn : goal.invariant-loop-turn

@@ -1,7 +1,7 @@
-use Rattle.std.proofs.Common.{◌≡◌, ◌-◌, ◌<◌, ap, sym, ◌∙◌, arith}
+use Rattle.std.proofs.Common.{ap, arith}
 use Rattle.std.proofs.lemmas.Result.{err_from_is_err_and}
-use Rattle.sc_parser.specs.ReadingItems.{one_bound}
-use Rattle.sc_parser.proofs.ManyLaws.{many-refused}
+use Rattle.sc_grammar.specs.ReadingItems.{one_bound}
+use Rattle.sc_grammar.proofs.ManyLaws.{many-refused}
 use Rattle.sc_parser.proofs.reader.Reader.bounds.Goals as goal
 
 pub returns-in_err-bound : goal.returns-in_err-bound
