@@ -1,34 +1,353 @@
-//! Chains of operands: which rule speaks of their links.
+//! Chains of operands, from judged operands.
 
-ghost use Rattle.std.specs.Prelude.{◌≡◌};
-ghost use Rattle.sc_check.specs.Operators as operators;
+ghost use Rattle.std.specs.Prelude.{◌≡◌, ◌∷◌, ◌++◌, [], map, IfOk};
+ghost use Rattle.std.specs.Option.{option_map};
+ghost use Rattle.std.specs.Result.{OnOk};
+ghost use Rattle.sc_tree.specs.PlainTyped.{link};
+ghost use Rattle.sc_tree.specs.ViewTyped.{plain_typed, plain_typed_link};
+ghost use Rattle.sc_typing.specs.Known as facts;
+ghost use Rattle.sc_typing.specs.Operators as operators;
+ghost use Rattle.sc_typing.specs.Rules as kept;
+ghost use Rattle.sc_typing.specs.ExpressionNotes as notes_of;
+ghost use Rattle.sc_typing.specs.Typing as typing;
+ghost use Rattle.sc_typing.specs.ViewKnown.{seen, seen_judged};
+ghost use Rattle.sc_check.specs.ViewChains.{seen_linked, seen_gathered};
 
-use sc_base::Binary;
+use crate::noting::note_one;
+use sc_base::{Binary, Ty};
+use sc_tree::{TypedExpr, TypedKind, TypedLink};
+use sc_typing::chains::{Level, level_of, link_rule};
+use sc_typing::known::{Judged, Known, Spot, Standing, common, fits, int_value, judgement, valued};
+use sc_typing::notes::Notes;
+use sc_typing::rules::{are_int, are_scalar};
+use sc_typing::types::{copy_of, int, is_int, is_pointer};
+use sqlite_items::{Boxed, Items};
+use std::alloc::{AllocError, Global};
 
-/// How tightly an operator binds, as far as the rules differ.
-#[derive(Clone, Copy, Debug, PartialEq, Eq)]
-pub enum Level {
-    Sums,
-    Equalities,
-    Others,
+/// A chain from the left so far: its first operand and links, the type of its value, and what that is.
+#[derive(Drop)]
+pub struct Linked {
+    pub first: Known,
+    pub rest: Vec<TypedLink>,
+    pub ty: Ty,
+    pub standing: Standing,
 }
 
-pub fn level_of(op: Binary) -> Level
-    ensures { result ≡ operators.level_of op }
+/// The operands of `&&` or `||` so far, and whether each has a type.
+#[derive(Drop)]
+pub struct Gathered {
+    pub all: Vec<TypedExpr>,
+    pub whole: bool,
+}
+
+#[tactic(auto, unfolding(sc_typing::specs::Operators::begin_chain))]
+pub fn begin_chain(alloc: Global, j: Judged) -> Result<Option<Linked>, AllocError>
+    ensures { IfOk result (λ made. option_map seen_linked made ≡ operators.begin_chain (seen_judged j)) }
 {
-    match op {
-        Binary::Add | Binary::Sub => Level::Sums,
-        Binary::Eq | Binary::Ne => Level::Equalities,
-        _ => Level::Others,
+    let kept = are_scalar(&j.known);
+    let Some(first) = j.only(kept) else {
+        return Ok(None);
+    };
+    let made = first_link(alloc, first)?;
+    Ok(Some(made))
+}
+
+fn first_link(alloc: Global, first: Known) -> Result<Linked, AllocError>
+    ensures { IfOk result (λ made. seen_linked made ≡ operators.first_link (seen first)) }
+{
+    let ty = copy_of(alloc, &first.ty)?;
+    let standing = first.standing;
+    Ok(Linked {
+        first,
+        rest: Vec::new(alloc),
+        ty,
+        standing,
+    })
+}
+
+/// The rules on the link with this operator and operand.
+#[tactic(auto, unfolding(sc_typing::specs::ExpressionNotes::note_join))]
+pub fn note_join(
+    notes: &mut Notes,
+    left: &Option<Linked>,
+    op: Binary,
+    right: &Judged,
+    at: u32,
+) -> Result<(), AllocError>
+    ensures { IfOk result (λ _. notes.new ≡ notes_of.note_join (option_map seen_linked left.now) op (seen_judged right.now) at notes.old) }
+{
+    let kept = join_kept(left, op, right);
+    note_one(notes, right, kept, at, link_rule(level_of(op)))?;
+    Ok(())
+}
+
+/// Whether the rule on the link's operands is kept.
+fn join_kept(left: &Option<Linked>, op: Binary, right: &Judged) -> bool
+    ensures { result ≡ operators.join_kept (option_map seen_linked left.now) op (seen_judged right.now) }
+{
+    match level_of(op) {
+        Level::Sums => left_scalar(left) && are_int(&right.known),
+        Level::Equalities => left_comparable(left, &right.known),
+        Level::Others => left_int(left) && are_int(&right.known),
     }
 }
 
-pub fn link_rule(level: Level) -> u32
-    ensures { result ≡ operators.link_rule level }
+fn left_scalar(left: &Option<Linked>) -> bool
+    ensures { result ≡ kept.are_scalar (option_map operators.left_operand (option_map seen_linked left.now)) }
 {
-    match level {
-        Level::Sums => 11,
-        Level::Equalities => 10,
-        Level::Others => 9,
+    match left {
+        None => true,
+        Some(l) => !l.ty.void,
     }
+}
+
+fn left_int(left: &Option<Linked>) -> bool
+    ensures { result ≡ kept.are_int (option_map operators.left_operand (option_map seen_linked left.now)) }
+{
+    match left {
+        None => true,
+        Some(l) => is_int(&l.ty),
+    }
+}
+
+fn left_comparable(left: &Option<Linked>, right: &Option<Known>) -> bool
+    ensures { result ≡ kept.rule_10 (option_map operators.left_operand (option_map seen_linked left.now)) (option_map seen right.now) }
+{
+    let Some(a) = left else {
+        return true;
+    };
+    let Some(b) = right else {
+        return true;
+    };
+    comparable(a, b)
+}
+
+fn comparable(a: &Linked, b: &Known) -> bool
+    ensures { result ≡ kept.comparable (operators.left_operand (seen_linked a.now)) (seen b.now) }
+{
+    (is_int(&a.ty) && is_int(&b.ty))
+        || (is_pointer(&b.ty) && fits(&a.ty, a.standing, &b.ty))
+        || (is_pointer(&a.ty) && fits(&b.ty, b.standing, &a.ty))
+}
+
+/// The chain with one more link.
+#[tactic(auto, unfolding(sc_typing::specs::Operators::join))]
+pub fn join(
+    alloc: Global,
+    left: Option<Linked>,
+    op: Binary,
+    right: Judged,
+    at: u32,
+    line: u32,
+) -> Result<Option<Linked>, AllocError>
+    ensures { IfOk result (λ made. option_map seen_linked made ≡ operators.join (option_map seen_linked left) op (seen_judged right) at line) }
+{
+    let kept = join_kept(&left, op, &right);
+    let Some(l) = left else {
+        return Ok(None);
+    };
+    let Some(v) = right.only(kept) else {
+        return Ok(None);
+    };
+    let made = with_link(alloc, l, op, v, at, line)?;
+    Ok(Some(made))
+}
+
+/// The link behind the chain.
+fn with_link(
+    alloc: Global,
+    l: Linked,
+    op: Binary,
+    v: Known,
+    at: u32,
+    line: u32,
+) -> Result<Linked, AllocError>
+    ensures { IfOk result (λ made. seen_linked made ≡ operators.with_link (operators.level_of op) (seen_linked l) op at line (seen v)) }
+{
+    match level_of(op) {
+        Level::Sums => pushed(l, op, v.e, at, line),
+        Level::Equalities => equality(alloc, l, op, v, at, line),
+        Level::Others => pushed_int(alloc, l, op, v.e, at, line),
+    }
+}
+
+fn pushed(
+    l: Linked,
+    op: Binary,
+    e: Boxed<TypedExpr>,
+    at: u32,
+    line: u32,
+) -> Result<Linked, AllocError>
+    ensures { IfOk result (λ made. seen_linked made ≡ operators.pushed (seen_linked l) op (plain_typed e) at line) }
+{
+    let mut rest = l.rest;
+    push_link(&mut rest, op, e, at, line)?;
+    Ok(Linked {
+        first: l.first,
+        rest,
+        ty: l.ty,
+        standing: Standing::Value,
+    })
+}
+
+fn pushed_int(
+    alloc: Global,
+    l: Linked,
+    op: Binary,
+    e: Boxed<TypedExpr>,
+    at: u32,
+    line: u32,
+) -> Result<Linked, AllocError>
+    ensures { IfOk result (λ made. seen_linked made ≡ operators.pushed_int (seen_linked l) op (plain_typed e) at line) }
+{
+    let mut rest = l.rest;
+    push_link(&mut rest, op, e, at, line)?;
+    Ok(Linked {
+        first: l.first,
+        rest,
+        ty: int(alloc),
+        standing: Standing::Value,
+    })
+}
+
+fn push_link(
+    rest: &mut Vec<TypedLink>,
+    op: Binary,
+    e: Boxed<TypedExpr>,
+    at: u32,
+    line: u32,
+) -> Result<(), AllocError>
+    ensures { OnOk result (map plain_typed_link rest.new.items ≡ map plain_typed_link rest.old.items ++ link op (plain_typed e) at line ∷ []) }
+{
+    rest.push(TypedLink {
+        op,
+        e: e.into_inner(),
+        at,
+        line,
+    })?;
+    Ok(())
+}
+
+/// The link of operands that are compared, which become of one type.
+fn equality(
+    alloc: Global,
+    l: Linked,
+    op: Binary,
+    v: Known,
+    at: u32,
+    line: u32,
+) -> Result<Linked, AllocError>
+    ensures { IfOk result (λ made. seen_linked made ≡ operators.equality (seen_linked l) op at line (seen v) (facts.common l.ty l.standing v.ty)) }
+{
+    let ty = common(alloc, &l.ty, l.standing, &v.ty)?;
+    let l = with_first(alloc, l, &ty)?;
+    let v = v.meets(alloc, &ty)?;
+    let made = pushed_int(alloc, l, op, v.e, at, line)?;
+    Ok(made)
+}
+
+/// The chain whose first operand becomes of the type, unless it has links already.
+fn with_first(alloc: Global, l: Linked, ty: &Ty) -> Result<Linked, AllocError>
+    ensures { IfOk result (λ made. seen_linked made ≡ operators.with_first (seen_linked l) ty.now) }
+{
+    if has_links(l.rest.as_slice()) {
+        return Ok(l);
+    }
+    let first = l.first.meets(alloc, ty)?;
+    Ok(Linked {
+        first,
+        rest: l.rest,
+        ty: l.ty,
+        standing: l.standing,
+    })
+}
+
+fn has_links(rest: &[TypedLink]) -> bool
+    ensures { result ≡ operators.has_links (map plain_typed_link rest.now) }
+{
+    match rest {
+        [] => false,
+        [_, ..] => true,
+    }
+}
+
+/// The whole chain.
+pub fn chained(alloc: Global, spot: Spot, all: Option<Linked>) -> Result<Judged, AllocError>
+    ensures { IfOk result (λ made. seen_judged made ≡ typing.chained spot (option_map seen_linked all)) }
+{
+    let Some(l) = all else {
+        return Ok(judgement(spot, false, None));
+    };
+    let v = chain_value(alloc, spot, l)?;
+    Ok(judgement(spot, false, Some(v)))
+}
+
+fn chain_value(alloc: Global, spot: Spot, l: Linked) -> Result<Known, AllocError>
+    ensures { IfOk result (λ made. seen made ≡ operators.chain_value spot (seen_linked l)) }
+{
+    let own = copy_of(alloc, &l.ty)?;
+    let first = l.first;
+    let kind = TypedKind::Chain {
+        first: first.e,
+        rest: Items::from_vec(l.rest),
+    };
+    let made = valued(alloc, kind, own, l.ty, Standing::Value, spot)?;
+    Ok(made)
+}
+
+pub fn nothing_gathered(alloc: Global) -> Gathered
+    ensures { seen_gathered result ≡ typing.nothing_gathered }
+{
+    Gathered {
+        all: Vec::new(alloc),
+        whole: true,
+    }
+}
+
+/// The operands with one more.
+#[tactic(auto, unfolding(sc_typing::specs::Operators::gather))]
+pub fn gather(gathered: Gathered, j: Judged) -> Result<Gathered, AllocError>
+    ensures { IfOk result (λ made. seen_gathered made ≡ operators.gather (seen_gathered gathered) (seen_judged j)) }
+{
+    let kept = are_scalar(&j.known);
+    let mut all = gathered.all;
+    let Some(v) = j.only(kept) else {
+        return Ok(Gathered { all, whole: false });
+    };
+    push_operand(&mut all, v.e)?;
+    Ok(Gathered {
+        all,
+        whole: gathered.whole,
+    })
+}
+
+pub fn push_operand(all: &mut Vec<TypedExpr>, e: Boxed<TypedExpr>) -> Result<(), AllocError>
+    ensures { OnOk result (map plain_typed all.new.items ≡ map plain_typed all.old.items ++ plain_typed e ∷ []) }
+{
+    all.push(e.into_inner())?;
+    Ok(())
+}
+
+/// The operands joined by `&&`.
+pub fn both_of(alloc: Global, spot: Spot, gathered: Gathered) -> Result<Judged, AllocError>
+    ensures { IfOk result (λ made. seen_judged made ≡ typing.gathered_value typing.both_form spot (seen_gathered gathered)) }
+{
+    if !gathered.whole {
+        return Ok(judgement(spot, false, None));
+    }
+    let kind = TypedKind::And(Items::from_vec(gathered.all));
+    let v = int_value(alloc, kind, spot)?;
+    Ok(judgement(spot, false, Some(v)))
+}
+
+/// The operands joined by `||`.
+pub fn either_of(alloc: Global, spot: Spot, gathered: Gathered) -> Result<Judged, AllocError>
+    ensures { IfOk result (λ made. seen_judged made ≡ typing.gathered_value typing.either_form spot (seen_gathered gathered)) }
+{
+    if !gathered.whole {
+        return Ok(judgement(spot, false, None));
+    }
+    let kind = TypedKind::Or(Items::from_vec(gathered.all));
+    let v = int_value(alloc, kind, spot)?;
+    Ok(judgement(spot, false, Some(v)))
 }

@@ -1,14 +1,24 @@
-//! The typing rules of the language: which of them a tree breaks, and the tree with types where it breaks none.
+//! Checks a tree against the typing rules: the tree with types, or the first rule that is broken.
 #![tactic(auto)]
 
-pub mod answer;
+pub mod arguments;
 pub mod calls;
 pub mod chains;
-pub mod file;
-pub mod known;
+pub mod checker;
+pub mod copies;
+pub mod declarations;
+pub mod expressions;
+pub mod file_scope;
+pub mod functions;
 pub mod library;
-pub mod rules;
-pub mod types;
-pub mod walk;
+pub mod names;
+pub mod noting;
+pub mod operators;
+pub mod parameters;
+pub mod simple;
+pub mod statements;
+pub mod tails;
+pub mod values;
 
-pub use answer::CheckError;
+pub use checker::check;
+pub use sc_typing::CheckError;

@@ -1,63 +1,263 @@
-//! The functions of the library.
+//! The functions of the library: which arguments they want, and of which type a call is.
 
-ghost use Rattle.std.specs.Prelude.{◌≡◌};
-ghost use Rattle.sc_check.specs.Source as source;
+ghost use Rattle.std.specs.Prelude.{◌≡◌, ◌∷◌, [], map, take, drop, replicate, true, false, if◌then◌else◌, IfOk};
+ghost use Rattle.std.specs.Option.{option_map};
+ghost use Rattle.sc_typing.specs.Calls as calls;
+ghost use Rattle.sc_typing.specs.Known as facts;
+ghost use Rattle.sc_typing.specs.Types as types;
+ghost use Rattle.sc_typing.specs.ViewKnown.{seen, seen_judged};
+ghost use Rattle.sc_typing.specs.ViewSource.{source_of};
 
-/// A function of the library.
-#[derive(Clone, Copy, Debug, PartialEq, Eq)]
-pub enum Library {
-    Printf,
-    Sync,
-    Barrier,
-    AllStoreSync,
-    ToGlobal,
-    ToProc,
-    ToLocal,
-    BulkRead,
-    BulkWrite,
-    BulkGet,
-    BulkPut,
-    BulkStore,
-}
+use sc_base::{Star, Ty};
+use sc_typing::calls::Given;
+use sc_typing::file::File;
+use sc_typing::known::{Judged, Known, Spot, is_null};
+use sc_typing::library::Library;
+use sc_typing::types::{copy_of, element, int, is_pointer, is_wide, last_star, nothing, pointer};
+use std::alloc::{AllocError, Global};
 
-static LIBRARIES: [Library; 12] = [
-    Library::Printf,
-    Library::Sync,
-    Library::Barrier,
-    Library::AllStoreSync,
-    Library::ToGlobal,
-    Library::ToProc,
-    Library::ToLocal,
-    Library::BulkRead,
-    Library::BulkWrite,
-    Library::BulkGet,
-    Library::BulkPut,
-    Library::BulkStore,
-];
-
-/// The function of the library that the text names.
-#[tactic(auto, unfolding(crate::specs::Source::library_of))]
-pub fn library_of(text: &[u8]) -> Option<Library>
-    ensures { result ≡ source.library_of text.now }
-{
-    LIBRARIES.iter().copied().find(|l| text == library_text(*l))
-}
-
-fn library_text(library: Library) -> &'static [u8]
-    ensures { result.now ≡ source.library_text library }
+/// The types of the arguments that the function wants.
+pub fn library_wanted(
+    alloc: Global,
+    file: &File<'_>,
+    given: Option<Given>,
+    js: &[Judged],
+    library: Library,
+) -> Result<Vec<Ty>, AllocError>
+    ensures { IfOk result (λ wanted. wanted.items ≡ calls.library_wanted (source_of file.now) given (map seen_judged js.now) library) }
 {
     match library {
-        Library::Printf => b"printf",
-        Library::Sync => b"sync",
-        Library::Barrier => b"barrier",
-        Library::AllStoreSync => b"all_store_sync",
-        Library::ToGlobal => b"toglobal",
-        Library::ToProc => b"toproc",
-        Library::ToLocal => b"tolocal",
-        Library::BulkRead => b"bulk_read",
-        Library::BulkWrite => b"bulk_write",
-        Library::BulkGet => b"bulk_get",
-        Library::BulkPut => b"bulk_put",
-        Library::BulkStore => b"bulk_store",
+        Library::Printf => ints_wanted(alloc, format_directives(file, given)),
+        Library::Sync | Library::Barrier | Library::AllStoreSync => Ok(Vec::new(alloc)),
+        Library::ToGlobal => to_global_wanted(alloc, js),
+        Library::ToProc | Library::ToLocal => first_wanted(alloc, js),
+        Library::BulkRead | Library::BulkGet => {
+            pointers_wanted(alloc, js, Star::Local, Star::Global)
+        }
+        Library::BulkWrite | Library::BulkPut | Library::BulkStore => {
+            pointers_wanted(alloc, js, Star::Global, Star::Local)
+        }
     }
+}
+
+/// How many `%d` the given format has.
+fn format_directives(file: &File<'_>, given: Option<Given>) -> Option<usize>
+    ensures { result ≡ calls.format_directives (source_of file.now) given }
+{
+    match given {
+        None => None,
+        Some(given) => file.directives(given.format),
+    }
+}
+
+fn ints_wanted(alloc: Global, count: Option<usize>) -> Result<Vec<Ty>, AllocError>
+    ensures { IfOk result (λ wanted. wanted.items ≡ calls.ints_wanted count) }
+{
+    match count {
+        None => Ok(Vec::new(alloc)),
+        Some(count) => ints(alloc, count),
+    }
+}
+
+fn ints(alloc: Global, count: usize) -> Result<Vec<Ty>, AllocError>
+    ensures { IfOk result (λ wanted. wanted.items ≡ replicate count types.int) }
+{
+    let mut wanted = Vec::new(alloc);
+    for _i in 0..count {
+        wanted.push(int(alloc))?;
+    }
+    Ok(wanted)
+}
+
+fn to_global_wanted(alloc: Global, js: &[Judged]) -> Result<Vec<Ty>, AllocError>
+    ensures { IfOk result (λ wanted. wanted.items ≡ calls.to_global_wanted (map seen_judged js.now)) }
+{
+    let ty = second_element(alloc, js)?;
+    let reached = pointer(alloc, &ty, Star::Local)?;
+    let mut wanted = Vec::new(alloc);
+    wanted.push(int(alloc))?;
+    wanted.push(reached)?;
+    Ok(wanted)
+}
+
+fn first_wanted(alloc: Global, js: &[Judged]) -> Result<Vec<Ty>, AllocError>
+    ensures { IfOk result (λ wanted. wanted.items ≡ calls.type_or_int (calls.first_known (map seen_judged js.now)) ∷ []) }
+{
+    let ty = first_type(alloc, js)?;
+    let mut wanted = Vec::new(alloc);
+    wanted.push(ty)?;
+    Ok(wanted)
+}
+
+/// Two pointers to what the arguments reach, with these last stars, and an int.
+fn pointers_wanted(
+    alloc: Global,
+    js: &[Judged],
+    to: Star,
+    from: Star,
+) -> Result<Vec<Ty>, AllocError>
+    ensures { IfOk result (λ wanted. wanted.items ≡ calls.pointers_wanted (calls.element_among (take 2 (map seen_judged js.now))) to from) }
+{
+    let ty = first_element(alloc, js)?;
+    let to = pointer(alloc, &ty, to)?;
+    let from = pointer(alloc, &ty, from)?;
+    let mut wanted = Vec::new(alloc);
+    wanted.push(to)?;
+    wanted.push(from)?;
+    wanted.push(int(alloc))?;
+    Ok(wanted)
+}
+
+/// The type that the first of the first two arguments reaches that is a pointer and not `NULL`, or int.
+fn first_element(alloc: Global, js: &[Judged]) -> Result<Ty, AllocError>
+    ensures { IfOk result (λ ty. ty ≡ calls.element_among (take 2 (map seen_judged js.now))) }
+{
+    match js {
+        [] => Ok(int(alloc)),
+        [a] => element_or_int(alloc, &a.known),
+        [a, b, ..] => first_of_two(alloc, &a.known, &b.known),
+    }
+}
+
+fn first_of_two(alloc: Global, a: &Option<Known>, b: &Option<Known>) -> Result<Ty, AllocError>
+    ensures { IfOk result (λ ty. ty ≡ calls.element_or (option_map seen a.now) (calls.element_or (option_map seen b.now) types.int)) }
+{
+    match a {
+        None => element_or_int(alloc, b),
+        Some(v) if reaches(v) => element(alloc, &v.ty),
+        Some(_) => element_or_int(alloc, b),
+    }
+}
+
+/// The type that the second argument reaches, if it is a pointer and not `NULL`, or int.
+fn second_element(alloc: Global, js: &[Judged]) -> Result<Ty, AllocError>
+    ensures { IfOk result (λ ty. ty ≡ calls.element_among (take 1 (drop 1 (map seen_judged js.now)))) }
+{
+    match js {
+        [] | [_] => Ok(int(alloc)),
+        [_, j, ..] => element_or_int(alloc, &j.known),
+    }
+}
+
+fn element_or_int(alloc: Global, known: &Option<Known>) -> Result<Ty, AllocError>
+    ensures { IfOk result (λ ty. ty ≡ calls.element_or (option_map seen known.now) types.int) }
+{
+    match known {
+        None => Ok(int(alloc)),
+        Some(v) if reaches(v) => element(alloc, &v.ty),
+        Some(_) => Ok(int(alloc)),
+    }
+}
+
+/// Whether it is a pointer and not `NULL`.
+fn reaches(v: &Known) -> bool
+    ensures { result ≡ (if types.is_pointer v.now.ty then (if facts.is_null v.now.standing then false else true) else false) }
+{
+    is_pointer(&v.ty) && !is_null(v.standing)
+}
+
+/// The type of the first argument, or int.
+fn first_type(alloc: Global, js: &[Judged]) -> Result<Ty, AllocError>
+    ensures { IfOk result (λ ty. ty ≡ calls.type_or_int (calls.first_known (map seen_judged js.now))) }
+{
+    match js {
+        [] => Ok(int(alloc)),
+        [j, ..] => type_or_int(alloc, &j.known),
+    }
+}
+
+fn type_or_int(alloc: Global, known: &Option<Known>) -> Result<Ty, AllocError>
+    ensures { IfOk result (λ ty. ty ≡ calls.type_or_int (option_map seen known.now)) }
+{
+    match known {
+        None => Ok(int(alloc)),
+        Some(v) => copy_of(alloc, &v.ty),
+    }
+}
+
+/// What the rule on the call asks besides.
+pub fn library_asks(file: &File<'_>, given: Option<Given>, js: &[Judged], library: Library) -> bool
+    ensures { result ≡ calls.library_asks (source_of file.now) given (map seen_judged js.now) library }
+{
+    match library {
+        Library::Printf => format_directives(file, given).is_some(),
+        Library::ToProc | Library::ToLocal => is_first_wide(js),
+        _ => true,
+    }
+}
+
+fn is_first_wide(js: &[Judged]) -> bool
+    ensures { result ≡ calls.are_wide (calls.first_known (map seen_judged js.now)) }
+{
+    match js {
+        [] => true,
+        [j, ..] => are_wide(&j.known),
+    }
+}
+
+fn are_wide(known: &Option<Known>) -> bool
+    ensures { result ≡ calls.are_wide (option_map seen known.now) }
+{
+    match known {
+        None => true,
+        Some(v) => is_wide(last_star(&v.ty)),
+    }
+}
+
+/// The rule on its calls.
+pub fn library_rule(library: Library) -> u32
+    ensures { result ≡ calls.library_rule library }
+{
+    match library {
+        Library::Printf => 22,
+        _ => 23,
+    }
+}
+
+/// The token at which the rule is broken: the format, or the name.
+pub fn library_token(library: Library, given: Option<Given>, spot: Spot) -> u32
+    ensures { result ≡ calls.library_token library given spot }
+{
+    match library {
+        Library::Printf => format_token(given, spot),
+        _ => spot.at,
+    }
+}
+
+fn format_token(given: Option<Given>, spot: Spot) -> u32
+    ensures { result ≡ calls.library_token Library.Printf given spot }
+{
+    match given {
+        None => spot.at,
+        Some(given) => given.at,
+    }
+}
+
+/// The type of the call.
+pub fn library_type(alloc: Global, js: &[Judged], library: Library) -> Result<Ty, AllocError>
+    ensures { IfOk result (λ ty. ty ≡ calls.library_type (map seen_judged js.now) library) }
+{
+    match library {
+        Library::ToGlobal => global_type(alloc, js),
+        Library::ToLocal => local_type(alloc, js),
+        Library::ToProc => Ok(int(alloc)),
+        _ => Ok(nothing(alloc)),
+    }
+}
+
+fn global_type(alloc: Global, js: &[Judged]) -> Result<Ty, AllocError>
+    ensures { IfOk result (λ ty. ty ≡ types.pointer (calls.element_among (take 1 (drop 1 (map seen_judged js.now)))) Star.Global) }
+{
+    let ty = second_element(alloc, js)?;
+    let made = pointer(alloc, &ty, Star::Global)?;
+    Ok(made)
+}
+
+fn local_type(alloc: Global, js: &[Judged]) -> Result<Ty, AllocError>
+    ensures { IfOk result (λ ty. ty ≡ types.pointer (types.element (calls.type_or_int (calls.first_known (map seen_judged js.now)))) Star.Local) }
+{
+    let ty = first_type(alloc, js)?;
+    let ty = element(alloc, &ty)?;
+    let made = pointer(alloc, &ty, Star::Local)?;
+    Ok(made)
 }

@@ -1,6 +1,0 @@
-use Rattle.std.proofs.Common.{◌≡◌, ◌+◌, drop, take, map, replicate, ◌++◌, List, [], ◌∷◌, ℕ}
-use Rattle.sc_check.specs.Program.{least_of, name_text}
-use Rattle.sc_check.proofs.answer.push_copies.Given as goal
-
-abbrev pub invariant-loop-text : goal.invariant-loop-text
-invariant-loop-text l = l.texts.items ++ drop l.text-index l.more ≡ l.initial.texts.items ++ l.more

@@ -1,0 +1,13 @@
+-- Postfix expressions of the code as plain data.
+use Rattle.std.specs.Prelude.{map}
+use Rattle.std.specs.Option.{option_map}
+use Rattle.sc_tree.specs.ViewTyped.{plain_typed, plain_typed_tail}
+use Rattle.sc_typing.specs.Operators as operators
+use Rattle.sc_check.specs.declared.tails.Tailed.{Tailed}
+use Rattle.sc_check.specs.declared.tails.Tailing.{Tailing}
+
+abbrev pub seen_tailed : Tailed → operators.Tailed
+seen_tailed t = record { first = plain_typed t.first; rest = map plain_typed_tail t.rest.items; ty = t.ty; standing = t.standing }
+
+abbrev pub seen_tailing : Tailing → operators.Tailing
+seen_tailing t = record { placed = t.placed; skip = t.skip; tailed = option_map seen_tailed t.tailed }

@@ -1,0 +1,428 @@
+//! Typed expressions of operators and constants, from judged operands.
+
+ghost use Rattle.std.specs.Prelude.{◌≡◌, Some, pos, if◌then◌else◌, IfOk};
+ghost use Rattle.std.specs.Option.{option_map};
+ghost use Rattle.std.specs.Ordering.{int_eq};
+ghost use Rattle.sc_typing.specs.Operators as operators;
+ghost use Rattle.sc_typing.specs.Typing as typing;
+ghost use Rattle.sc_typing.specs.ViewKnown.{seen, seen_judged};
+ghost use Rattle.sc_typing.specs.declared.known.Standing.TheVariants as standing;
+ghost use Rattle.sc_tree.specs.PlainTyped as typed;
+ghost use Rattle.sc_tree.specs.ViewTyped.{plain_typed, plain_typed_kind};
+
+use sc_base::{Binary, Star, Stars, Ty, Unary};
+use sc_tree::{TypedExpr, TypedKind};
+use sc_typing::known::{Judged, Known, Spot, Standing, common, int_value, judgement, valued};
+use sc_typing::rules;
+use sc_typing::types::{copy_of, element, int, last_star, pointer};
+use sqlite_items::Boxed;
+use std::alloc::{AllocError, Global};
+
+fn number_standing(n: i64) -> Standing
+    ensures { result ≡ (if int_eq n (pos 0) then standing.Null else standing.Value) }
+{
+    if n == 0 {
+        Standing::Null
+    } else {
+        Standing::Value
+    }
+}
+
+/// A number, which becomes null where a pointer is wanted and it is 0.
+#[tactic(auto, unfolding(sc_typing::specs::Operators::number_of))]
+pub fn number_of(alloc: Global, n: i64, spot: Spot) -> Result<Judged, AllocError>
+    ensures { IfOk result (λ made. seen_judged made ≡ operators.number_of n spot) }
+{
+    let standing = number_standing(n);
+    let made = valued(
+        alloc,
+        TypedKind::Number(n),
+        int(alloc),
+        int(alloc),
+        standing,
+        spot,
+    )?;
+    Ok(judgement(spot, false, Some(made)))
+}
+
+/// `NULL`
+pub fn null_constant(alloc: Global, spot: Spot) -> Result<Judged, AllocError>
+    ensures { IfOk result (λ made. seen_judged made ≡ typing.null_constant spot) }
+{
+    let own = pointer(alloc, &int(alloc), Star::Local)?;
+    let ty = pointer(alloc, &int(alloc), Star::Local)?;
+    let made = valued(alloc, TypedKind::Null, own, ty, Standing::Null, spot)?;
+    Ok(judgement(spot, false, Some(made)))
+}
+
+/// An int that is no place.
+pub fn constant(alloc: Global, kind: TypedKind, spot: Spot) -> Result<Judged, AllocError>
+    ensures { IfOk result (λ made. seen_judged made ≡ typing.constant (plain_typed_kind kind) spot) }
+{
+    let made = int_value(alloc, kind, spot)?;
+    Ok(judgement(spot, false, Some(made)))
+}
+
+fn plus_value(alloc: Global, v: Known, spot: Spot) -> Result<Known, AllocError>
+    ensures { IfOk result (λ made. seen made ≡ operators.int_of typed.plus spot (seen v)) }
+{
+    let made = int_value(alloc, TypedKind::Plus(v.e), spot)?;
+    Ok(made)
+}
+
+/// `+` before an int.
+#[tactic(auto, unfolding(sc_typing::specs::Operators::plus_of))]
+pub fn plus_of(alloc: Global, j: Judged, spot: Spot) -> Result<Judged, AllocError>
+    ensures { IfOk result (λ made. seen_judged made ≡ operators.plus_of (seen_judged j) spot) }
+{
+    let kept = rules::are_int(&j.known);
+    let Some(v) = j.only(kept) else {
+        return Ok(judgement(spot, false, None));
+    };
+    let made = plus_value(alloc, v, spot)?;
+    Ok(judgement(spot, false, Some(made)))
+}
+
+fn prefix_kept(op: Unary, known: &Option<Known>) -> bool
+    ensures { result ≡ operators.prefix_kept op (option_map seen known.now) }
+{
+    match op {
+        Unary::Not => rules::are_scalar(known),
+        Unary::Minus | Unary::Invert => rules::are_int(known),
+    }
+}
+
+fn prefix_value(alloc: Global, op: Unary, v: Known, spot: Spot) -> Result<Known, AllocError>
+    ensures { IfOk result (λ made. seen made ≡ operators.int_of (typed.prefix op) spot (seen v)) }
+{
+    let made = int_value(alloc, TypedKind::Prefix { op, e: v.e }, spot)?;
+    Ok(made)
+}
+
+/// `!`, `-` or `~` before its operand.
+#[tactic(auto, unfolding(sc_typing::specs::Operators::prefix_of))]
+pub fn prefix_of(alloc: Global, op: Unary, j: Judged, spot: Spot) -> Result<Judged, AllocError>
+    ensures { IfOk result (λ made. seen_judged made ≡ operators.prefix_of op (seen_judged j) spot) }
+{
+    let kept = prefix_kept(op, &j.known);
+    let Some(v) = j.only(kept) else {
+        return Ok(judgement(spot, false, None));
+    };
+    let made = prefix_value(alloc, op, v, spot)?;
+    Ok(judgement(spot, false, Some(made)))
+}
+
+/// What a pointer with this last star reaches.
+pub fn reached(star: Option<Star>) -> Standing
+    ensures { result ≡ operators.reached star }
+{
+    match star {
+        None => Standing::Value,
+        Some(star) => Standing::Memory(star),
+    }
+}
+
+fn deref_value(alloc: Global, v: Known, spot: Spot) -> Result<Known, AllocError>
+    ensures { IfOk result (λ made. seen made ≡ operators.deref_value spot (seen v)) }
+{
+    let standing = reached(last_star(&v.ty));
+    let own = element(alloc, &v.ty)?;
+    let ty = element(alloc, &v.ty)?;
+    let made = valued(alloc, TypedKind::Deref(v.e), own, ty, standing, spot)?;
+    Ok(made)
+}
+
+/// `*` before a pointer.
+#[tactic(auto, unfolding(sc_typing::specs::Operators::deref_of))]
+pub fn deref_of(alloc: Global, j: Judged, spot: Spot) -> Result<Judged, AllocError>
+    ensures { IfOk result (λ made. seen_judged made ≡ operators.deref_of (seen_judged j) spot) }
+{
+    let kept = rules::are_pointers(&j.known);
+    let Some(v) = j.only(kept) else {
+        return Ok(judgement(spot, true, None));
+    };
+    let made = deref_value(alloc, v, spot)?;
+    Ok(judgement(spot, true, Some(made)))
+}
+
+/// The type of a pointer to the place.
+fn address_type(alloc: Global, ty: &Ty, standing: Standing) -> Result<Ty, AllocError>
+    ensures { IfOk result (λ made. made ≡ operators.address_type ty.now standing) }
+{
+    if let Standing::Memory(star) = standing {
+        let made = pointer(alloc, ty, star)?;
+        return Ok(made);
+    }
+    let made = copy_of(alloc, ty)?;
+    Ok(made)
+}
+
+fn address_value(alloc: Global, v: Known, spot: Spot) -> Result<Known, AllocError>
+    ensures { IfOk result (λ made. seen made ≡ operators.address_value spot (seen v)) }
+{
+    let own = address_type(alloc, &v.ty, v.standing)?;
+    let ty = address_type(alloc, &v.ty, v.standing)?;
+    let kind = TypedKind::Address(v.e);
+    let made = valued(alloc, kind, own, ty, Standing::Value, spot)?;
+    Ok(made)
+}
+
+/// `&` before a memory place.
+#[tactic(auto, unfolding(sc_typing::specs::Operators::address_of))]
+pub fn address_of(alloc: Global, j: Judged, spot: Spot) -> Result<Judged, AllocError>
+    ensures { IfOk result (λ made. seen_judged made ≡ operators.address_of (seen_judged j) spot) }
+{
+    let kept = rules::rule_14(&j);
+    let Some(v) = j.only(kept) else {
+        return Ok(judgement(spot, false, None));
+    };
+    let made = address_value(alloc, v, spot)?;
+    Ok(judgement(spot, false, Some(made)))
+}
+
+fn copied(alloc: Global, stars: &Stars) -> Result<Stars, AllocError>
+    ensures { IfOk result (λ copy. copy ≡ stars.now) }
+{
+    let copy = Vec::from_slice(alloc, stars.as_slice())?;
+    Ok(Stars::from_vec(copy))
+}
+
+fn cast_type(alloc: Global, stars: &Stars) -> Result<Ty, AllocError>
+    ensures { IfOk result (λ ty. ty ≡ operators.cast_type stars.now) }
+{
+    let stars = copied(alloc, stars)?;
+    Ok(Ty { void: false, stars })
+}
+
+fn cast_value(alloc: Global, stars: &Stars, v: Known, spot: Spot) -> Result<Known, AllocError>
+    ensures { IfOk result (λ made. seen made ≡ operators.cast_value stars.now spot (seen v)) }
+{
+    let own = cast_type(alloc, stars)?;
+    let ty = cast_type(alloc, stars)?;
+    let stars = copied(alloc, stars)?;
+    let kind = TypedKind::Cast { stars, e: v.e };
+    let made = valued(alloc, kind, own, ty, Standing::Value, spot)?;
+    Ok(made)
+}
+
+/// The operand as a value of int with these stars.
+#[tactic(auto, unfolding(sc_typing::specs::Operators::cast_of))]
+pub fn cast_of(alloc: Global, stars: &Stars, j: Judged, spot: Spot) -> Result<Judged, AllocError>
+    ensures { IfOk result (λ made. seen_judged made ≡ operators.cast_of stars.now (seen_judged j) spot) }
+{
+    let to = cast_type(alloc, stars)?;
+    let kept = rules::rule_24_cast(&to, &j.known);
+    let Some(v) = j.only(kept) else {
+        return Ok(judgement(spot, false, None));
+    };
+    let made = cast_value(alloc, stars, v, spot)?;
+    Ok(judgement(spot, false, Some(made)))
+}
+
+fn step_value(alloc: Global, up: bool, v: Known, spot: Spot) -> Result<Known, AllocError>
+    ensures { IfOk result (λ made. seen made ≡ operators.step_value up spot (seen v)) }
+{
+    let own = copy_of(alloc, &v.ty)?;
+    let kind = TypedKind::Step { up, place: v.e };
+    let made = valued(alloc, kind, own, v.ty, Standing::Value, spot)?;
+    Ok(made)
+}
+
+/// `++` or `--` before a place.
+#[tactic(auto, unfolding(sc_typing::specs::Operators::step_of))]
+pub fn step_of(alloc: Global, up: bool, j: Judged, spot: Spot) -> Result<Judged, AllocError>
+    ensures { IfOk result (λ made. seen_judged made ≡ operators.step_of up (seen_judged j) spot) }
+{
+    let kept = rules::rule_16_place(true, j.placed, &j.known);
+    let Some(v) = j.only(kept) else {
+        return Ok(judgement(spot, false, None));
+    };
+    let made = step_value(alloc, up, v, spot)?;
+    Ok(judgement(spot, false, Some(made)))
+}
+
+fn set_value(
+    alloc: Global,
+    op: Option<Binary>,
+    a: Known,
+    b: Known,
+    spot: Spot,
+) -> Result<Known, AllocError>
+    ensures { IfOk result (λ made. seen made ≡ operators.set_value op spot (seen a) (seen b)) }
+{
+    let own = copy_of(alloc, &a.ty)?;
+    let kind = TypedKind::Assign {
+        op,
+        left: a.e,
+        right: b.e,
+    };
+    let made = valued(alloc, kind, own, a.ty, Standing::Value, spot)?;
+    Ok(made)
+}
+
+/// The assignment, where both sides have a type.
+fn assigned(
+    alloc: Global,
+    left: Option<Known>,
+    right: Option<Known>,
+    spot: Spot,
+) -> Result<Option<Known>, AllocError>
+    ensures { IfOk result (λ made. option_map seen made ≡ operators.both_of (operators.assigned_value spot) (option_map seen left) (option_map seen right)) }
+{
+    let Some(a) = left else {
+        return Ok(None);
+    };
+    let Some(b) = right else {
+        return Ok(None);
+    };
+    let b = b.meets(alloc, &a.ty)?;
+    let made = set_value(alloc, None, a, b, spot)?;
+    Ok(Some(made))
+}
+
+/// The compound assignment, where both sides have a type.
+fn compounded(
+    alloc: Global,
+    op: Binary,
+    left: Option<Known>,
+    right: Option<Known>,
+    spot: Spot,
+) -> Result<Option<Known>, AllocError>
+    ensures { IfOk result (λ made. option_map seen made ≡ operators.both_of (operators.set_value (Some op) spot) (option_map seen left) (option_map seen right)) }
+{
+    let Some(a) = left else {
+        return Ok(None);
+    };
+    let Some(b) = right else {
+        return Ok(None);
+    };
+    let made = set_value(alloc, Some(op), a, b, spot)?;
+    Ok(Some(made))
+}
+
+#[tactic(auto, unfolding(sc_typing::specs::Operators::assign_of))]
+fn assign_of(alloc: Global, left: Judged, right: Judged, spot: Spot) -> Result<Judged, AllocError>
+    ensures { IfOk result (λ made. seen_judged made ≡ operators.assign_of (seen_judged left) (seen_judged right) spot) }
+{
+    let kept = rules::rule_15(&left, &right);
+    let made = assigned(alloc, left.only(kept), right.known, spot)?;
+    Ok(judgement(spot, false, made))
+}
+
+#[tactic(auto, unfolding(sc_typing::specs::Operators::compound_of))]
+fn compound_of(
+    alloc: Global,
+    op: Binary,
+    left: Judged,
+    right: Judged,
+    spot: Spot,
+) -> Result<Judged, AllocError>
+    ensures { IfOk result (λ made. seen_judged made ≡ operators.compound_of op (seen_judged left) (seen_judged right) spot) }
+{
+    let kept = rules::rule_16(op, &left, &right);
+    let made = compounded(alloc, op, left.only(kept), right.known, spot)?;
+    Ok(judgement(spot, false, made))
+}
+
+/// `=`, or a compound assignment where there is an operator.
+pub fn set_of(
+    alloc: Global,
+    op: Option<Binary>,
+    left: Judged,
+    right: Judged,
+    spot: Spot,
+) -> Result<Judged, AllocError>
+    ensures { IfOk result (λ made. seen_judged made ≡ operators.set_of op (seen_judged left) (seen_judged right) spot) }
+{
+    if let Some(op) = op {
+        let made = compound_of(alloc, op, left, right, spot)?;
+        return Ok(made);
+    }
+    let made = assign_of(alloc, left, right, spot)?;
+    Ok(made)
+}
+
+/// The choice between two values that become of the type.
+fn choice_value(
+    alloc: Global,
+    test: Boxed<TypedExpr>,
+    ty: Ty,
+    a: Known,
+    b: Known,
+    spot: Spot,
+) -> Result<Known, AllocError>
+    ensures { IfOk result (λ made. seen made ≡ operators.choice_value (plain_typed test) spot ty (seen a) (seen b)) }
+{
+    let a = a.meets(alloc, &ty)?;
+    let b = b.meets(alloc, &ty)?;
+    let own = copy_of(alloc, &ty)?;
+    let kind = TypedKind::Cond {
+        test,
+        yes: a.e,
+        no: b.e,
+    };
+    let made = valued(alloc, kind, own, ty, Standing::Value, spot)?;
+    Ok(made)
+}
+
+fn chosen_value(
+    alloc: Global,
+    t: Known,
+    a: Known,
+    b: Known,
+    spot: Spot,
+) -> Result<Known, AllocError>
+    ensures { IfOk result (λ made. seen made ≡ operators.chosen_value spot (seen t) (seen a) (seen b)) }
+{
+    let ty = common(alloc, &a.ty, a.standing, &b.ty)?;
+    let made = choice_value(alloc, t.e, ty, a, b, spot)?;
+    Ok(made)
+}
+
+/// The choice, where all its parts have a type.
+fn chosen(
+    alloc: Global,
+    test: Option<Known>,
+    on: Option<Known>,
+    off: Option<Known>,
+    spot: Spot,
+) -> Result<Option<Known>, AllocError>
+    ensures { IfOk result (λ made. option_map seen made ≡ operators.all_of (operators.chosen_value spot) (option_map seen test) (option_map seen on) (option_map seen off)) }
+{
+    let Some(t) = test else {
+        return Ok(None);
+    };
+    let Some(a) = on else {
+        return Ok(None);
+    };
+    let Some(b) = off else {
+        return Ok(None);
+    };
+    let made = chosen_value(alloc, t, a, b, spot)?;
+    Ok(Some(made))
+}
+
+/// Whether the arms fit, and none of them is void.
+fn arms_kept(on: &Judged, off: &Judged) -> bool
+    ensures { result ≡ operators.arms_kept (seen_judged on.now) (seen_judged off.now) }
+{
+    rules::rule_24_arms(&on.known, &off.known)
+        && rules::are_scalar(&on.known)
+        && rules::are_scalar(&off.known)
+}
+
+/// `test ? on : off`
+#[tactic(auto, unfolding(sc_typing::specs::Operators::choice_of))]
+pub fn choice_of(
+    alloc: Global,
+    test: Judged,
+    on: Judged,
+    off: Judged,
+    spot: Spot,
+) -> Result<Judged, AllocError>
+    ensures { IfOk result (λ made. seen_judged made ≡ operators.choice_of (seen_judged test) (seen_judged on) (seen_judged off) spot) }
+{
+    let kept = arms_kept(&on, &off) && rules::are_scalar(&test.known);
+    let made = chosen(alloc, test.only(kept), on.known, off.known, spot)?;
+    Ok(judgement(spot, false, made))
+}

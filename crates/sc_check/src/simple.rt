@@ -1,0 +1,253 @@
+//! Statements that hold no statement, with types and notes of what is broken in them.
+
+ghost use Rattle.std.specs.Prelude.{◌≡◌, false, map, IfOk};
+ghost use Rattle.std.specs.Option.{option_copied, option_map};
+ghost use Rattle.sc_tree.specs.PlainStmt as form;
+ghost use Rattle.sc_tree.specs.PlainTypedStmt as typed_form;
+ghost use Rattle.sc_tree.specs.View.{plain};
+ghost use Rattle.sc_tree.specs.ViewStmt.{declared};
+ghost use Rattle.sc_tree.specs.ViewTyped.{plain_typed};
+ghost use Rattle.sc_tree.specs.ViewTypedStmt.{plain_typed_stmt};
+ghost use Rattle.sc_typing.specs.Notes.{Noted, unless};
+ghost use Rattle.sc_typing.specs.Rules as rules;
+ghost use Rattle.sc_typing.specs.Scope.{innermost};
+ghost use Rattle.sc_typing.specs.StatementNotes as notes_of;
+ghost use Rattle.sc_typing.specs.Statements as typed;
+ghost use Rattle.sc_typing.specs.ViewKnown.{seen_judged};
+ghost use Rattle.sc_typing.specs.ViewSource.{source_of};
+ghost use Rattle.sc_check.specs.ViewStatements.{within_of};
+
+use crate::names::named;
+use crate::noting::{note_one, note_two};
+use crate::statements::Body;
+use crate::values::{met, sent, unboxed};
+use sc_tree::{Expr, Local, Named, TypedExpr, TypedStmt};
+use sc_typing::known::{Judged, Spot};
+use sc_typing::notes::Notes;
+use sc_typing::rules::{fit, rule_17, rule_18, rule_20, rule_24_name};
+use sc_typing::scope::{InScope, Scope};
+use sqlite_items::{Boxed, Items};
+use std::alloc::{AllocError, Global};
+
+/// The rule on the sides of a split-phase assignment.
+#[tactic(auto, unfolding(sc_typing::specs::StatementNotes::note_split))]
+fn note_split(
+    notes: &mut Notes,
+    oneway: bool,
+    left: &Judged,
+    right: &Judged,
+    at: u32,
+) -> Result<(), AllocError>
+    ensures { IfOk result (λ _. notes.new
+        ≡ notes_of.note_split oneway (seen_judged left.now) (seen_judged right.now) at notes.old) }
+{
+    if oneway {
+        note_two(notes, left, right, rule_18(left, right), at, 18)?;
+    } else {
+        note_two(notes, left, right, rule_17(left, right), at, 17)?;
+    }
+    Ok(())
+}
+
+#[tactic(auto, using(sc_tree::proofs::ViewTypedStmtLaws::typed_statement_views), unfolding(sc_typing::specs::Statements::typed_split))]
+fn split_of(
+    alloc: Global,
+    left: Judged,
+    right: Judged,
+    oneway: bool,
+    at: u32,
+    line: u32,
+) -> Result<Boxed<TypedStmt>, AllocError>
+    ensures { IfOk result (λ made. plain_typed_stmt made
+        ≡ typed.typed_split (seen_judged left) (seen_judged right) oneway at line) }
+{
+    let right = sent(alloc, &left.known, right)?;
+    let left = left.into_expr(alloc)?;
+    let made = TypedStmt::Split {
+        left: left.into_inner(),
+        right: right.into_inner(),
+        oneway,
+        at,
+        line,
+    };
+    let made = Boxed::new(alloc, made)?;
+    Ok(made)
+}
+
+fn local_number(local: Option<&InScope>) -> Named
+    ensures { result ≡ typed.local_number (option_copied local.entry) }
+{
+    match local {
+        None => Named::Local(0),
+        Some(local) => Named::Local(local.number),
+    }
+}
+
+impl Body<'_> {
+    /// The declaration of locals, in a block that began where so many locals were in scope.
+    #[tactic(auto, using(sc_tree::proofs::ViewTypedStmtLaws::typed_statement_views))]
+    pub fn declare(
+        &self,
+        scope: &mut Scope,
+        notes: &mut Notes,
+        from: usize,
+        locals: &[Local],
+    ) -> Result<Boxed<TypedStmt>, AllocError>
+        ensures typed { IfOk result (λ made. plain_typed_stmt made
+            ≡ typed.typed_statement (within_of self.now) scope.old (form.declare (map declared locals.now))) }
+        ensures scope { IfOk result (λ _. scope.new ≡ typed.after scope.old (form.declare (map declared locals.now))) }
+        ensures notes { IfOk result (λ _. notes.new
+            ≡ notes_of.note_statement (within_of self.now) false from scope.old
+            (form.declare (map declared locals.now)) notes.old) }
+    {
+        let locals = self.locals(scope, notes, from, locals)?;
+        let made = Boxed::new(
+            self.alloc,
+            TypedStmt::Declare {
+                locals: Items::from_vec(locals),
+            },
+        )?;
+        Ok(made)
+    }
+
+    /// An expression as a statement.
+    #[tactic(auto, using(sc_tree::proofs::ViewTypedStmtLaws::typed_statement_views))]
+    pub fn simple(
+        &self,
+        scope: &Scope,
+        notes: &mut Notes,
+        e: &Expr,
+    ) -> Result<Boxed<TypedStmt>, AllocError>
+        ensures { Noted plain_typed_stmt result
+            (typed.typed_statement (within_of self.now) scope.now (form.simple (plain e.now))) notes.new
+            (notes_of.note_statement (within_of self.now) false 0 scope.now (form.simple (plain e.now)) notes.old) }
+    {
+        let e = self.dropped(scope, notes, e)?;
+        let made = Boxed::new(self.alloc, TypedStmt::Simple(e.into_inner()))?;
+        Ok(made)
+    }
+
+    /// `left := right`, or `left :- right` where `oneway` is true.
+    pub fn split(
+        &self,
+        scope: &Scope,
+        notes: &mut Notes,
+        left: &Expr,
+        right: &Expr,
+        oneway: bool,
+        at: u32,
+        line: u32,
+    ) -> Result<Boxed<TypedStmt>, AllocError>
+        ensures { Noted plain_typed_stmt result
+            (typed.typed_statement (within_of self.now) scope.now
+            (form.split (plain left.now) (plain right.now) oneway at line)) notes.new
+            (notes_of.note_statement (within_of self.now) false 0 scope.now
+            (form.split (plain left.now) (plain right.now) oneway at line) notes.old) }
+    {
+        let left = self.judge(scope, notes, left)?;
+        let right = self.judge(scope, notes, right)?;
+        note_split(notes, oneway, &left, &right, at)?;
+        let made = split_of(self.alloc, left, right, oneway, at, line)?;
+        Ok(made)
+    }
+
+    /// The name of a `for_my_1d`.
+    #[tactic(auto, unfolding(sc_typing::specs::StatementNotes::note_turns))]
+    pub fn turns(
+        &self,
+        scope: &Scope,
+        notes: &mut Notes,
+        n: u32,
+        at: u32,
+        line: u32,
+    ) -> Result<Named, AllocError>
+        ensures number { IfOk result (λ local. local ≡ typed.local_number (innermost n scope.now.locals)) }
+        ensures notes { IfOk result (λ _. notes.new
+            ≡ notes_of.note_turns (source_of self.now.file) scope.now n at line notes.old) }
+    {
+        let spot = Spot {
+            start: at,
+            at,
+            line,
+        };
+        let judged = named(self.alloc, &self.file, scope, notes, 0, n, spot)?;
+        notes.demand(rule_24_name(&judged.known), at, 24)?;
+        Ok(local_number(scope.local(n)))
+    }
+
+    /// The result that a `return` at the token gives.
+    fn result(
+        &self,
+        scope: &Scope,
+        notes: &mut Notes,
+        e: &Option<Expr>,
+        at: u32,
+    ) -> Result<Option<Boxed<TypedExpr>>, AllocError>
+        ensures { Noted (option_map plain_typed) result
+            (typed.typed_result (within_of self.now) scope.now (option_map plain e.now)) notes.new
+            (notes_of.note_return (within_of self.now) scope.now (option_map plain e.now) at notes.old) }
+    {
+        let Some(e) = e else {
+            notes.demand(rule_20(self.result, &None), at, 20)?;
+            return Ok(None);
+        };
+        let judged = self.judge(scope, notes, e)?;
+        let kept = !self.result.void && fit(&judged.known, self.result);
+        note_one(notes, &judged, kept, at, 20)?;
+        let made = met(self.alloc, judged, self.result)?;
+        Ok(Some(made))
+    }
+
+    /// `return`, with a value or without one.
+    #[tactic(auto, using(sc_tree::proofs::ViewTypedStmtLaws::typed_statement_views))]
+    pub fn return_statement(
+        &self,
+        scope: &Scope,
+        notes: &mut Notes,
+        e: &Option<Expr>,
+        at: u32,
+        line: u32,
+    ) -> Result<Boxed<TypedStmt>, AllocError>
+        ensures { Noted plain_typed_stmt result
+            (typed.typed_statement (within_of self.now) scope.now (form.return (option_map plain e.now) at line))
+            notes.new (notes_of.note_statement (within_of self.now) false 0 scope.now
+            (form.return (option_map plain e.now) at line) notes.old) }
+    {
+        let value = self.result(scope, notes, e, at)?;
+        let value = unboxed(value);
+        let made = Boxed::new(self.alloc, TypedStmt::Return { value, at, line })?;
+        Ok(made)
+    }
+
+    /// `break`, in a loop or not.
+    #[tactic(auto, using(sc_tree::proofs::ViewTypedStmtLaws::typed_statement_views))]
+    pub fn break_statement(
+        &self,
+        notes: &mut Notes,
+        looped: bool,
+        at: u32,
+    ) -> Result<Boxed<TypedStmt>, AllocError>
+        ensures typed { IfOk result (λ made. plain_typed_stmt made ≡ typed_form.break at) }
+        ensures notes { IfOk result (λ _. notes.new ≡ unless (rules.rule_21 looped) at 21 notes.old) }
+    {
+        notes.demand(looped, at, 21)?;
+        let made = Boxed::new(self.alloc, TypedStmt::Break { at })?;
+        Ok(made)
+    }
+
+    /// `continue`, in a loop or not.
+    #[tactic(auto, using(sc_tree::proofs::ViewTypedStmtLaws::typed_statement_views))]
+    pub fn continue_statement(
+        &self,
+        notes: &mut Notes,
+        looped: bool,
+        at: u32,
+    ) -> Result<Boxed<TypedStmt>, AllocError>
+        ensures typed { IfOk result (λ made. plain_typed_stmt made ≡ typed_form.continue at) }
+        ensures notes { IfOk result (λ _. notes.new ≡ unless (rules.rule_21 looped) at 21 notes.old) }
+    {
+        notes.demand(looped, at, 21)?;
+        let made = Boxed::new(self.alloc, TypedStmt::Continue { at })?;
+        Ok(made)
+    }
+}

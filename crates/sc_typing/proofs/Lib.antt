@@ -1,0 +1,12 @@
+pub mod Exactly
+pub mod OneFirst
+pub mod OperandsNoted
+pub mod KindsNoted
+pub mod NamesNoted
+pub mod ListsNoted
+pub mod ExpressionsNoted
+pub mod LocalsNoted
+pub mod SimpleNoted
+pub mod StatementsNoted
+pub mod FunctionsNoted
+pub mod Noted
