@@ -256,7 +256,7 @@ too_many nodes shapes objects cells few made is many =
     let above : 65536 < sum_by (λ o. cells_of nodes o 0) objects = omega arith in
     rw (nat_lt-no 256 (length shapes) few, made, nat_lt-yes 65536 (sum_by (λ o. cells_of nodes o 0) objects) above, is) refl
 
-accepted : (nodes : ℕ) (shapes : List Shape) (objects : List LaidObject) (cells : ℕ) → length shapes ≤ 256 → each_of (object_of nodes) shapes ≡ Ok objects → cells ≡ min (sum_by (λ o. cells_of nodes o 0) objects) (2 ^ 64 - 1) → cells ≤ 65536 → layout_of shapes nodes ≡ Ok (record { nodes = nodes; objects = objects })
+pub accepted : (nodes : ℕ) (shapes : List Shape) (objects : List LaidObject) (cells : ℕ) → length shapes ≤ 256 → each_of (object_of nodes) shapes ≡ Ok objects → cells ≡ min (sum_by (λ o. cells_of nodes o 0) objects) (2 ^ 64 - 1) → cells ≤ 65536 → layout_of shapes nodes ≡ Ok (record { nodes = nodes; objects = objects })
 unfolding layout_of
 accepted nodes shapes objects cells few made is enough =
     let low : sum_by (λ o. cells_of nodes o 0) objects ≤ 65536 = omega arith in

@@ -3,6 +3,7 @@ pub mod Stack
 pub mod Numbers
 pub mod Products
 pub mod Causes
+pub mod Reasons
 pub mod Kept
 pub mod Extents
 pub mod OneToOne

@@ -1,5 +1,9 @@
 //! Laws of layouts and of the arithmetic of pointers: each function's clause is the law.
 
+ghost use Rattle.std.specs.Prelude.{◌≡◌, ℕ, List, Err};
+ghost use Rattle.sc_base.specs.declared.shape.Shape.{Shape};
+ghost use Rattle.sc_layout.specs.declared.error.LayoutError.TheVariants.{OutOfMemory};
+ghost use Rattle.sc_layout.specs.Layout.{layout_of};
 ghost use Rattle.sc_layout.specs.Laws.{PartsGiveTheValue, SpreadElementsArePlaces, NodeZeroIsFullest, SpreadStepsAdd, WalkIsCyclic, ToprocOfToglobal};
 
 /// A bound's expression has the value of its operator at the values of its two parts.
@@ -30,4 +34,9 @@ pub fn walk_is_cyclic()
 /// `toproc` gives the node that `toglobal` was given.
 pub fn toproc_of_toglobal()
     ensures { ToprocOfToglobal }
+{}
+
+/// Shapes are refused for what they are, and not for want of memory.
+pub fn refused_for_what_they_are()
+    ensures { (shapes : List Shape) (nodes : ℕ) → layout_of shapes nodes ≡ Err OutOfMemory → ⊥ }
 {}

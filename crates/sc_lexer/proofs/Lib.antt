@@ -4,5 +4,6 @@ pub mod ElementLaws
 pub mod LongestLaws
 pub mod NumberLaws
 pub mod StepLaws
+pub mod Reasons
 pub mod TextLaws
 pub mod Walks

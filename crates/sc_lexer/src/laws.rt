@@ -3,6 +3,7 @@
 ghost use Rattle.std.specs.Prelude.{◌≡◌, ◌≤◌, ℕ, List, ◌⊎◌, Some, Ok, true, false, length, nat_eq};
 ghost use Rattle.sc_tree.specs.declared.lexed.Lexed.{Lexed};
 ghost use Rattle.sc_lexer.specs.declared.refusal.LexError.{LexError};
+ghost use Rattle.sc_lexer.specs.declared.refusal.LexError.TheVariants.{OutOfMemory};
 ghost use Rattle.std.specs.List.{starts_with};
 ghost use Rattle.sc_tree.specs.declared.token.Mark.{Mark};
 ghost use Rattle.sc_lexer.specs.Spelling.{mark_text, mark_of};
@@ -24,6 +25,11 @@ pub fn at_most_one_refusal()
 pub fn tokens_or_refusal()
     ensures one { (text : List ℕ) → ((a : Lexed) × IsLexed text a) ⊎ ((e : LexError) × IsRefused text e) }
     ensures not_both { (text : List ℕ) (a : Lexed) (e : LexError) → IsLexed text a → IsRefused text e → ⊥ }
+{}
+
+/// A text is refused for its bytes, and not for want of memory.
+pub fn refused_for_its_bytes()
+    ensures { (text : List ℕ) → IsRefused text OutOfMemory → ⊥ }
 {}
 
 /// No mark that the bytes begin with is longer than the one that is taken.

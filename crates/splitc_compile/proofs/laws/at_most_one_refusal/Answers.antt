@@ -1,0 +1,5 @@
+use Rattle.splitc_compile.proofs.OneAnswer.{refused-once}
+use Rattle.splitc_compile.proofs.laws.at_most_one_refusal.Goals as goal
+
+pub returns : goal.returns
+returns c = refused-once
