@@ -9,14 +9,14 @@ use Rattle.effect_order.specs.Effect.{held, Effect as CellEffect}
 use Rattle.sc_meaning.specs.declared.request.Request.TheVariants.{Read, Write}
 use Rattle.sc_meaning.specs.declared.event.SourceEvent.{SourceEvent}
 use Rattle.sc_meaning.specs.declared.event.SourceEvent.TheVariants.{Do, Effect, End as Ends}
-use Rattle.sc_meaning.specs.Layout.{start}
 use Rattle.sc_meaning.specs.declared.request.Answer.{Answer}
 use Rattle.sc_meaning.specs.declared.request.Answer.TheVariants.{Shown, Noted}
 use Rattle.sc_meaning.specs.Doing.{Doing, answered, next_request, next_end, next_text}
 
--- how many nodes there are, and what each does from its beginning
+-- how many nodes there are, what each cell holds before any write, and what each node does from its beginning
 pub record Program : Type 0 where
   pub nodes : ℕ
+  pub start : Place → Value
   pub starts : ℕ → Doing
 
 -- the effects on cells, the newest first
@@ -29,8 +29,8 @@ source_effects (Effect node request cell wrote place value ∷ past) =
 source_effects (_ ∷ past) = source_effects past
 
 -- what the place holds: the value last written to it, or the start value
-abbrev pub shown : Place → List SourceEvent → Value
-shown place past = held start place (source_effects past)
+abbrev pub shown : (Place → Value) → Place → List SourceEvent → Value
+shown start place past = held start place (source_effects past)
 
 -- what the event answers to the node
 abbrev pub answer_to : ℕ → SourceEvent → Option Answer
@@ -83,7 +83,7 @@ pub record ReadAllowed (program : Program) (past : List SourceEvent) (node reque
   pub node_within : node < program.nodes
   pub numbered : request ≡ requests node past
   pub next : (line : ℕ) × (next_request (doing program node past) ≡ Some (Read place line))
-  pub shows : value ≡ shown place past
+  pub shows : value ≡ shown program.start place past
 
 -- a blocking write is the node's next request, with that request's value
 pub record WriteAllowed (program : Program) (past : List SourceEvent) (node request : ℕ) (place : Place) (value : Value) : Type 0 where
@@ -128,5 +128,5 @@ abbrev pub outcome : Program → List SourceEvent → Outcome
 outcome program history = record {
   ends = λ node. ended node (reverse history);
   texts = λ node. printed program node (reverse history);
-  memory = λ place. shown place (reverse history);
+  memory = λ place. shown program.start place (reverse history);
 }

@@ -1,6 +1,4 @@
-pub mod Layout
 pub mod Doing
-pub mod Meaning
+pub mod Printing
 pub mod History
-pub mod Standing
 pub mod Laws

@@ -1,12 +1,8 @@
-//! What a source means: what each node does, and which lists of events are its histories.
+//! What a node does, and which lists of events are histories of a program.
 #![tactic(auto)]
 
-pub mod evaluator;
 pub mod event;
 pub mod laws;
-pub mod layout;
-mod printing;
+pub mod printing;
 pub mod request;
-#[cfg(test)]
-mod tests;
-pub mod tree;
+pub mod stand;

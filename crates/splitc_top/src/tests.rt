@@ -1,5 +1,7 @@
 //! The program on whole sources. Expected texts are counted by hand.
 
+mod evaluation;
+
 use crate::status::Status;
 use crate::top::top_still;
 use sc_io::{MemorySink, MemorySource, SteadySink, SteadySource};
@@ -141,17 +143,59 @@ fn sources_and_their_reports(rt: HostRuntime) -> Result<(), Fail> {
         },
         Row {
             words: "run -n 2",
-            source: "",
-            status: 3,
-            out: "",
-            err: "splitc: outside the first form\n",
+            source: "int A[6]::; splitc_main() { int *spread s = &A[1]; s = s + 3; printf(\"%d %d\\n\", toproc(s), toproc((int *global)&A[1] + 1)); }",
+            status: 0,
+            out: "== node 0 ==\n0 1\n-- ended --\n== node 1 ==\n0 1\n-- ended --\n",
+            err: "",
         },
         Row {
-            words: "run",
-            source: "splitc_main() { barrier(); }",
-            status: 3,
-            out: "",
-            err: "splitc: outside the first form\n",
+            words: "run -n 2 -m",
+            source: "int A[2]::;\nsplitc_main() { int z = 0;\nif (MYPROC == 0) { A[1] = 5; z = 1 / z; } }",
+            status: 10,
+            out: "== node 0 ==\n-- fault Divide line 3 --\n== node 1 ==\n-- ended --\n== memory ==\nA = 0 5\n",
+            err: "",
+        },
+        Row {
+            words: "run -n 2 -m",
+            source: "#define K 0x2\nint A[K]::; splitc_main() { A[1] = K; }",
+            status: 0,
+            out: "== node 0 ==\n-- ended --\n== node 1 ==\n-- ended --\n== memory ==\nA = 0 2\n",
+            err: "",
+        },
+        Row {
+            words: "run -n 2 -m",
+            source: "int A[4]::[2]; splitc_main() { if (MYPROC == 1) A[3][1] = 9; }",
+            status: 0,
+            out: "== node 0 ==\n-- ended --\n== node 1 ==\n-- ended --\n== memory ==\nA = 0 0 0 0 0 0 0 9\n",
+            err: "",
+        },
+        Row {
+            words: "run -n 1",
+            source: "splitc_main() { int *p; printf(\"%d\", *p); }",
+            status: 10,
+            out: "== node 0 ==\n-- fault NullUse line 1 --\n",
+            err: "",
+        },
+        Row {
+            words: "run -n 2",
+            source: "int x; splitc_main() { int *global g = toglobal(2, &x); }",
+            status: 10,
+            out: "== node 0 ==\n-- fault BadNode line 1 --\n== node 1 ==\n-- fault BadNode line 1 --\n",
+            err: "",
+        },
+        Row {
+            words: "run -n 2 -m",
+            source: "int x; int *p; int *global g; int *q; splitc_main() { x = MYPROC + 3; p = &x; g = &x; }",
+            status: 0,
+            out: "== node 0 ==\n-- ended --\n== node 1 ==\n-- ended --\n== memory ==\nx@0 = 3\nx@1 = 4\np@0 = x@0+0\np@1 = x@0+0\ng@0 = x@0+0\ng@1 = x@1+0\nq@0 = null\nq@1 = null\n",
+            err: "",
+        },
+        Row {
+            words: "run -n 1",
+            source: "int A[65536]; splitc_main() { }",
+            status: 0,
+            out: "== node 0 ==\n-- ended --\n",
+            err: "",
         },
         Row {
             words: "run -n 17",
@@ -175,6 +219,96 @@ fn sources_and_their_reports(rt: HostRuntime) -> Result<(), Fail> {
         text_is(&rt, told.err.as_slice(), row.err, row.source);
     }
     Ok(())
+}
+
+/// The source is refused with this line, without its newline.
+fn check_refused(rt: &impl Abort, alloc: Global, source: &str, line: &str) -> Result<(), Fail> {
+    let told = run_program(alloc, "run -n 2", source)?;
+    assert_eq!(rt; told.status, 3, "of {line}");
+    text_is(rt, told.out.as_slice(), "", line);
+    let wanted = format!(in alloc; "{line}\n")?;
+    text_is(rt, told.err.as_slice(), wanted.as_str(), line);
+    Ok(())
+}
+
+#[test]
+fn refused_sources_and_their_lines(rt: HostRuntime) -> Result<(), Fail> {
+    let rows = [
+        ("splitc_main() { 08; }", "splitc: bad byte at 17"),
+        ("/* a", "splitc: open comment at 0"),
+        (
+            "splitc_main() { return 9223372036854775808; }",
+            "splitc: wide number at 23",
+        ),
+        ("\n#undef K", "splitc: bad directive on line 2"),
+        ("", "splitc: syntax at token 1"),
+        ("splitc_main() { 1 + ; }", "splitc: syntax at token 7"),
+        ("int A[0]; splitc_main() { }", "splitc: bad bound on line 1"),
+        (
+            "int A[65537]; splitc_main() { }",
+            "splitc: too many cells: 65537",
+        ),
+        ("splitc_main() { x = 1; }", "splitc: rule 2 on line 1"),
+        ("splitc_main() { barrier(); }", "splitc: not built yet"),
+    ];
+    for (source, line) in rows {
+        check_refused(&rt, rt.alloc(), source, line)?;
+    }
+    Ok(())
+}
+
+/// So many times the text, between two others.
+fn repeated(
+    alloc: Global,
+    head: &str,
+    text: &str,
+    count: u32,
+    tail: &str,
+) -> Result<String, AllocError> {
+    let mut all = head.to_string(alloc)?;
+    for _ in 0..count {
+        all.push_str(text)?;
+    }
+    all.push_str(tail)?;
+    Ok(all)
+}
+
+#[test]
+fn sources_past_a_limit(rt: HostRuntime) -> Result<(), Fail> {
+    let alloc = rt.alloc();
+    let deep = repeated(alloc, "splitc_main() { return", "(", 70, "")?;
+    check_refused(&rt, alloc, deep.as_str(), "splitc: too deep at token 69")?;
+    let tokens = repeated(alloc, "", ";", 65537, "")?;
+    check_refused(&rt, alloc, tokens.as_str(), "splitc: too many tokens")?;
+    let mut objects = String::new(alloc);
+    for number in 0..257 {
+        objects.push_str(format!(in alloc; "int x{number}; ")?.as_str())?;
+    }
+    objects.push_str("splitc_main() { }")?;
+    check_refused(
+        &rt,
+        alloc,
+        objects.as_str(),
+        "splitc: too many objects: 257",
+    )
+}
+
+#[test]
+fn the_longest_source(rt: HostRuntime) -> Result<(), Fail> {
+    let alloc = rt.alloc();
+    let count = 262144 - PRINTS_ITS_NODE.len() as u32 - 2;
+    let head = format!(in alloc; "{PRINTS_ITS_NODE}//")?;
+    let longest = repeated(alloc, head.as_str(), "x", count, "")?;
+    let told = run_program(alloc, "run -n 2", longest.as_str())?;
+    text_is(
+        &rt,
+        told.out.as_slice(),
+        "== node 0 ==\n0\n-- ended --\n== node 1 ==\n1\n-- ended --\n",
+        "the longest source",
+    );
+    assert_eq!(rt; told.status, 0);
+    let longer = repeated(alloc, longest.as_str(), "x", 1, "")?;
+    check_refused(&rt, alloc, longer.as_str(), "splitc: source too long")
 }
 
 fn seeded(alloc: Global, seed: u32, source: &str) -> Result<Told, Fail> {

@@ -1,37 +1,29 @@
 //! The program over any source and any sinks.
 
-ghost use Rattle.std.specs.Prelude.{◌≡◌, ◌≢◌, ◌⊎◌, ℕ, ◌<◌, ◌≤◌, List, [], length, map, string_bytes, Option, Some, None, IfOk, IfErr, IfSome, OnOk, codes};
-ghost use Rattle.std.specs.Io.KnownBytes.{Consumes, IsAtEnd};
-ghost use Rattle.sc_io.specs.Streams.{Rose, Gains};
-ghost use Rattle.splitc_top.specs.declared.words.Command.{Command as CommandRecord};
-ghost use Rattle.sc_meaning.specs.declared.tree.Tree.{Tree};
-ghost use Rattle.splitc_top.specs.declared.status.Status.{Status as StatusRecord};
+ghost use Rattle.std.specs.Prelude.{◌≡◌, ℕ, ◌<◌, ◌≤◌, List, length, map, string_bytes, IfOk, IfErr, true};
+ghost use Rattle.sc_base.specs.declared.limits.TheConstants.{LIMITS};
+ghost use Rattle.sc_tree.specs.ViewTypedTree.{plain_typed_tree};
+ghost use Rattle.tree_run.specs.Built.{is_built};
 ghost use Rattle.splitc_top.specs.Words.{command_of, nodes_of};
-ghost use Rattle.splitc_top.specs.Form.{first_form};
-ghost use Rattle.splitc_top.specs.Top.{IsJobOf, IsReport, IsReportOf, IsRefusal, RefusalCause, refusal_line, seed_of, shows_memory, status_of_refusal, IsReported, GainsPart};
+ghost use Rattle.splitc_top.specs.Reasons.{IsTaken, Excuses, Holds};
+ghost use Rattle.splitc_top.specs.Top.{seed_of, budget_of, shows_memory, status_of_run};
+ghost use Rattle.splitc_top.specs.Top.{IsReportOf, IsReported, IsAnswer, stream};
 
-use crate::form::{read_form, sites};
-use crate::job::Job;
-use crate::picks::SeedPicks;
-use crate::report::{report_text, status_of_results};
-use crate::run::run_picks;
+use crate::job::TreeJob;
+use crate::line::line_of;
+use crate::reason::{Reason, status_of_reason};
 use crate::status::Status;
 use crate::words::{Command, WordsError, read_words};
+use run_report::{RunStatus, report_text, status_of_results};
+use run_sim::picks::SeedPicks;
+use run_sim::run::run_picks;
 use sc_base::{LIMITS, OutOfMemory};
 use sc_io::{ReadError, Sink, Source, read_all, write_all};
+use splitc_compile::{Accepted, CompileError, accept};
 use std::alloc::Global;
 use std::sync::Wait;
 use std::thread::Threads;
-
-/// Why there is no report: the words are outside the form, the source is refused, the source failed, or memory was
-/// wanting.
-#[derive(Clone, Copy, Debug, PartialEq, Eq)]
-pub enum Refusal {
-    Words,
-    Refused,
-    Read,
-    Memory,
-}
+use tree_run::is_built;
 
 /// A report with the status that it gives.
 #[derive(Drop)]
@@ -40,28 +32,24 @@ struct Report {
     status: Status,
 }
 
-/// The line of a refusal, with its newline.
-fn line_of(refusal: Refusal) -> &'static [u8]
-    ensures { result.now ≡ refusal_line (status_of_refusal refusal) }
+/// The status of a run that was reported.
+fn status_of_run(status: RunStatus) -> Status
+    ensures { result ≡ status_of_run status }
 {
-    match refusal {
-        Refusal::Words => b"splitc: words\n",
-        Refusal::Refused => b"splitc: outside the first form\n",
-        Refusal::Read => b"splitc: read fault\n",
-        Refusal::Memory => b"splitc: no memory\n",
+    match status {
+        RunStatus::Ended => Status::Ended,
+        RunStatus::Fault => Status::Fault,
+        RunStatus::Waiting => Status::Waiting,
+        RunStatus::Cut => Status::Cut,
     }
 }
 
-/// The status of a refusal whose line was written.
-fn status_of(refusal: Refusal) -> Status
-    ensures { result ≡ status_of_refusal refusal }
+/// How many nodes the command asks for.
+fn nodes_of(command: Command) -> u32
+    ensures { result ≡ nodes_of command }
 {
-    match refusal {
-        Refusal::Words => Status::Words,
-        Refusal::Refused => Status::Refused,
-        Refusal::Read => Status::Read,
-        Refusal::Memory => Status::Memory,
-    }
+    let Command::Run { nodes, .. } = command;
+    nodes
 }
 
 fn seed_of(command: Command) -> u64
@@ -71,6 +59,13 @@ fn seed_of(command: Command) -> u64
     seed
 }
 
+fn budget_of(command: Command) -> u64
+    ensures { result ≡ budget_of command }
+{
+    let Command::Run { budget, .. } = command;
+    budget
+}
+
 fn shows_memory(command: Command) -> bool
     ensures { result ≡ shows_memory command }
 {
@@ -78,69 +73,87 @@ fn shows_memory(command: Command) -> bool
     memory
 }
 
-/// The job of the command on the source, or None where the source is outside the first form.
-fn job_of(alloc: Global, command: Command, source: &[u8]) -> Result<Option<Job>, OutOfMemory>
-    requires { 0 < nodes_of command }
-    ensures outside { IfOk result (λ job. job ≡ None → first_form (nodes_of command) source.now ≡ None) }
-    ensures inside { IfOk result (λ job. IfSome job (λ j. IsJobOf command source.now j)) }
+/// The source as it is accepted for the command's nodes, or why it is not.
+fn accepted_of(alloc: Global, command: Command, source: &[u8]) -> Result<Accepted, Reason>
+    requires some { 0 < nodes_of command }
+    requires short { length source.now ≤ LIMITS.source }
+    ensures taken { IfOk result (λ a.
+        IsTaken (nodes_of command) source.now a.names (plain_typed_tree a.typed) a.layout) }
+    ensures refused { IfErr result (λ e. Excuses (nodes_of command) source.now e) }
 {
-    let Command::Run { nodes, budget, .. } = command;
-    let Some(tree) = read_form(alloc, source, nodes)? else {
-        return Ok(None);
-    };
-    let sites = sites(alloc, &tree)?;
-    Ok(Some(Job {
-        tree,
-        sites,
-        nodes,
-        budget,
-    }))
+    match accept(alloc, source, nodes_of(command)) {
+        Ok(accepted) => Ok(accepted),
+        Err(CompileError::Refused(refusal)) => Err(Reason::Refused(refusal)),
+        Err(CompileError::OutOfMemory) => Err(Reason::Memory),
+    }
 }
 
-/// The report of the command on the source. It is refused where the source is outside the first form, and else only for
-/// want of memory.
-fn report_of(alloc: Global, command: Command, source: &[u8]) -> Result<Report, Refusal>
-    requires { 0 < nodes_of command }
-    ensures told { IfOk result (λ r. IsReportOf command source.now r.text.items r.status) }
-    ensures refused { result ≡ Err Refusal.Refused → first_form (nodes_of command) source.now ≡ None }
-    ensures other { IfErr result (λ e. (e ≡ Refusal.Refused) ⊎ (e ≡ Refusal.Memory)) }
+/// The report of the source that is accepted and built.
+fn run_of(alloc: Global, command: Command, accepted: &Accepted) -> Result<Report, OutOfMemory>
+    requires built { is_built (plain_typed_tree accepted.now.typed) ≡ true }
+    ensures { IfOk result (λ r. (source : List ℕ)
+        → IsTaken (nodes_of command) source accepted.now.names (plain_typed_tree accepted.now.typed) accepted.now.layout
+        → IsReportOf command source r.text.items r.status) }
 {
-    let Ok(accepted) = job_of(alloc, command, source) else {
-        return Err(Refusal::Memory);
-    };
-    let Some(job) = accepted else {
-        return Err(Refusal::Refused);
+    // Read for the proof alone, which learns that the layout is lawful.
+    let _objects = accepted.layout.count();
+    let job = TreeJob {
+        typed: &accepted.typed,
+        layout: &accepted.layout,
+        budget: budget_of(command),
     };
     let mut picks = SeedPicks::new(seed_of(command));
-    let Ok(run) = run_picks(alloc, &job, &mut picks) else {
-        return Err(Refusal::Memory);
-    };
+    let run = run_picks(alloc, &job, &mut picks)?;
     let nodes = run.nodes.as_slice();
-    let Ok(text) = report_text(alloc, &job.tree, nodes, &run.memory, shows_memory(command)) else {
-        return Err(Refusal::Memory);
-    };
+    let text = report_text(
+        alloc,
+        &accepted.names,
+        &accepted.layout,
+        nodes,
+        &run.memory,
+        shows_memory(command),
+    )?;
     Ok(Report {
         text,
-        status: status_of_results(nodes),
+        status: status_of_run(status_of_results(nodes)),
     })
 }
 
+/// The report of the command on the source, or why there is none.
+fn report_of(alloc: Global, command: Command, source: &[u8]) -> Result<Report, Reason>
+    requires some { 0 < nodes_of command }
+    requires short { length source.now ≤ LIMITS.source }
+    ensures told { IfOk result (λ r. IsReportOf command source.now r.text.items r.status) }
+    ensures refused { IfErr result (λ e. Excuses (nodes_of command) source.now e) }
+{
+    let accepted = accepted_of(alloc, command, source)?;
+    if !is_built(&accepted.typed) {
+        return Err(Reason::NotBuilt);
+    }
+    match run_of(alloc, command, &accepted) {
+        Ok(report) => Ok(report),
+        Err(OutOfMemory) => Err(Reason::Memory),
+    }
+}
+
 /// Reads the words and the source, and runs it.
-fn prepare<S: Source>(alloc: Global, words: &[String], source: &mut S) -> Result<Report, Refusal>
-    ensures told { IfOk result (λ r. IsReported (command_of (map string_bytes words.now)) (S.left source.old) (S.left source.new) r.text.items r.status) }
-    ensures refused { IfErr result (λ e. RefusalCause (command_of (map string_bytes words.now)) (S.left source.old) (S.left source.new) (S.faults source.old) (S.faults source.new) (status_of_refusal e)) }
+fn prepare<S: Source>(alloc: Global, words: &[String], source: &mut S) -> Result<Report, Reason>
+    ensures told { IfOk result (λ r. IsReported (command_of (map string_bytes words.now))
+        (S.left source.old) (S.left source.new) r.text.items r.status) }
+    ensures refused { IfErr result (λ e. Holds (command_of (map string_bytes words.now))
+        (S.left source.old) (S.left source.new) (S.faults source.old) (S.faults source.new) e) }
     ensures later { S.faults source.old ≤ S.faults source.new }
 {
     let command = match read_words(alloc, words) {
         Ok(command) => command,
-        Err(WordsError::Form) => return Err(Refusal::Words),
-        Err(WordsError::OutOfMemory) => return Err(Refusal::Memory),
+        Err(WordsError::Form) => return Err(Reason::Words),
+        Err(WordsError::OutOfMemory) => return Err(Reason::Memory),
     };
     let bytes = match read_all(alloc, source, LIMITS.source as usize) {
         Ok(bytes) => bytes,
-        Err(ReadError::Fault) => return Err(Refusal::Read),
-        Err(ReadError::TooLong) => return Err(Refusal::Refused),
-        Err(ReadError::OutOfMemory) => return Err(Refusal::Memory),
+        Err(ReadError::Fault) => return Err(Reason::Read),
+        Err(ReadError::TooLong) => return Err(Reason::TooLong),
+        Err(ReadError::OutOfMemory) => return Err(Reason::Memory),
     };
     report_of(alloc, command, bytes.as_slice())
 }
@@ -154,40 +167,12 @@ pub fn top_still<S: Source, K: Sink, E: Sink>(
     out: &mut K,
     err: &mut E,
 ) -> Status
-    // A report was written whole, and nothing else.
-    ensures reported { IsReport result → (text : List ℕ)
-        × IsReported (command_of (map string_bytes words.now)) (S.left source.old) (S.left source.new) text result
-        × Gains (K.held out.old) (K.held out.new) text
-        × Gains (E.held err.old) (E.held err.new) [] }
-
-    // A refusal has its cause, and its line was written whole, and nothing else.
-    ensures refused { IsRefusal result →
-        RefusalCause (command_of (map string_bytes words.now)) (S.left source.old) (S.left source.new) (S.faults source.old) (S.faults source.new) result
-        × Gains (K.held out.old) (K.held out.new) []
-        × Gains (E.held err.old) (E.held err.new) (refusal_line result) }
-
-    // A write fault comes where a sink failed in this call, in the middle of a report or of a refusal's line.
-    ensures cut_short { result ≡ Status.Write →
-        ((text : List ℕ) × (status : StatusRecord) × Rose (K.faults out.old) (K.faults out.new)
-        × IsReported (command_of (map string_bytes words.now)) (S.left source.old) (S.left source.new) text status
-        × GainsPart (K.held out.old) (K.held out.new) text
-        × Gains (E.held err.old) (E.held err.new) [])
-        ⊎ ((status : StatusRecord) × Rose (E.faults err.old) (E.faults err.new) × IsRefusal status
-        × RefusalCause (command_of (map string_bytes words.now)) (S.left source.old) (S.left source.new) (S.faults source.old) (S.faults source.new) status
-        × Gains (K.held out.old) (K.held out.new) []
-        × GainsPart (E.held err.old) (E.held err.new) (refusal_line status)) }
-
-    // Where nothing fails, each source has the one status that is its own, or memory was wanting.
-    ensures words_alone { (Rose (E.faults err.old) (E.faults err.new) → ⊥) → result ≢ Status.Memory
-        → command_of (map string_bytes words.now) ≡ None → result ≡ Status.Words }
-    ensures accepted { (command : CommandRecord) (bytes : List ℕ) (tree : Tree)
-        → command_of (map string_bytes words.now) ≡ Some command → S.left source.old ≡ Some bytes → first_form (nodes_of command) bytes ≡ Some tree
-        → (Rose (S.faults source.old) (S.faults source.new) → ⊥) → (Rose (K.faults out.old) (K.faults out.new) → ⊥)
-        → (Rose (E.faults err.old) (E.faults err.new) → ⊥) → result ≢ Status.Memory → IsReport result }
-    ensures outside { (command : CommandRecord) (bytes : List ℕ)
-        → command_of (map string_bytes words.now) ≡ Some command → S.left source.old ≡ Some bytes → first_form (nodes_of command) bytes ≡ None
-        → (Rose (S.faults source.old) (S.faults source.new) → ⊥) → (Rose (E.faults err.old) (E.faults err.new) → ⊥)
-        → result ≢ Status.Memory → result ≡ Status.Refused }
+    ensures answer { IsAnswer (record {
+      command = command_of (map string_bytes words.now);
+      source = stream (S.left source.old) (S.left source.new) (S.faults source.old) (S.faults source.new);
+      out = stream (K.held out.old) (K.held out.new) (K.faults out.old) (K.faults out.new);
+      err = stream (E.held err.old) (E.held err.new) (E.faults err.old) (E.faults err.new);
+    }) result }
 
     // The counts never fall.
     ensures source_later { S.faults source.old ≤ S.faults source.new }
@@ -199,10 +184,13 @@ pub fn top_still<S: Source, K: Sink, E: Sink>(
             Ok(()) => report.status,
             Err(_) => Status::Write,
         },
-        Err(refusal) => match write_all(err, line_of(refusal)) {
-            Ok(()) => status_of(refusal),
-            Err(_) => Status::Write,
-        },
+        Err(reason) => {
+            let line = line_of(alloc, reason);
+            match write_all(err, line.text.as_bytes()) {
+                Ok(()) => status_of_reason(line.reason),
+                Err(_) => Status::Write,
+            }
+        }
     }
 }
 
@@ -230,40 +218,12 @@ pub fn top<R: Threads + Wait + Sync, S: Source, K: Sink, E: Sink, G: Gate + Sync
     err: &mut E,
     _gate: &G,
 ) -> Status
-    // A report was written whole, and nothing else.
-    ensures reported { IsReport result → (text : List ℕ)
-        × IsReported (command_of (map string_bytes words.now)) (S.left source.old) (S.left source.new) text result
-        × Gains (K.held out.old) (K.held out.new) text
-        × Gains (E.held err.old) (E.held err.new) [] }
-
-    // A refusal has its cause, and its line was written whole, and nothing else.
-    ensures refused { IsRefusal result →
-        RefusalCause (command_of (map string_bytes words.now)) (S.left source.old) (S.left source.new) (S.faults source.old) (S.faults source.new) result
-        × Gains (K.held out.old) (K.held out.new) []
-        × Gains (E.held err.old) (E.held err.new) (refusal_line result) }
-
-    // A write fault comes where a sink failed in this call, in the middle of a report or of a refusal's line.
-    ensures cut_short { result ≡ Status.Write →
-        ((text : List ℕ) × (status : StatusRecord) × Rose (K.faults out.old) (K.faults out.new)
-        × IsReported (command_of (map string_bytes words.now)) (S.left source.old) (S.left source.new) text status
-        × GainsPart (K.held out.old) (K.held out.new) text
-        × Gains (E.held err.old) (E.held err.new) [])
-        ⊎ ((status : StatusRecord) × Rose (E.faults err.old) (E.faults err.new) × IsRefusal status
-        × RefusalCause (command_of (map string_bytes words.now)) (S.left source.old) (S.left source.new) (S.faults source.old) (S.faults source.new) status
-        × Gains (K.held out.old) (K.held out.new) []
-        × GainsPart (E.held err.old) (E.held err.new) (refusal_line status)) }
-
-    // Where nothing fails, each source has the one status that is its own, or memory was wanting.
-    ensures words_alone { (Rose (E.faults err.old) (E.faults err.new) → ⊥) → result ≢ Status.Memory
-        → command_of (map string_bytes words.now) ≡ None → result ≡ Status.Words }
-    ensures accepted { (command : CommandRecord) (bytes : List ℕ) (tree : Tree)
-        → command_of (map string_bytes words.now) ≡ Some command → S.left source.old ≡ Some bytes → first_form (nodes_of command) bytes ≡ Some tree
-        → (Rose (S.faults source.old) (S.faults source.new) → ⊥) → (Rose (K.faults out.old) (K.faults out.new) → ⊥)
-        → (Rose (E.faults err.old) (E.faults err.new) → ⊥) → result ≢ Status.Memory → IsReport result }
-    ensures outside { (command : CommandRecord) (bytes : List ℕ)
-        → command_of (map string_bytes words.now) ≡ Some command → S.left source.old ≡ Some bytes → first_form (nodes_of command) bytes ≡ None
-        → (Rose (S.faults source.old) (S.faults source.new) → ⊥) → (Rose (E.faults err.old) (E.faults err.new) → ⊥)
-        → result ≢ Status.Memory → result ≡ Status.Refused }
+    ensures answer { IsAnswer (record {
+      command = command_of (map string_bytes words.now);
+      source = stream (S.left source.old) (S.left source.new) (S.faults source.old) (S.faults source.new);
+      out = stream (K.held out.old) (K.held out.new) (K.faults out.old) (K.faults out.new);
+      err = stream (E.held err.old) (E.held err.new) (E.faults err.old) (E.faults err.new);
+    }) result }
 
     // The counts never fall.
     ensures source_later { S.faults source.old ≤ S.faults source.new }

@@ -1,5 +1,5 @@
 use Rattle.std.proofs.Common.{◌≡◌, ◌++◌, drop}
-use Rattle.sc_meaning.specs.Meaning.{formatted}
+use Rattle.sc_meaning.specs.Printing.{formatted}
 use Rattle.sc_meaning.proofs.Formats.{opened}
 use Rattle.sc_meaning.proofs.printing.print_format.Given as goal
 

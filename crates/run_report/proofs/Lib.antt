@@ -1,0 +1,5 @@
+pub mod Lines
+pub mod Ends
+pub mod Counts
+pub mod CellTexts
+pub mod ShownSame

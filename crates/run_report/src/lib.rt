@@ -1,0 +1,16 @@
+//! The report of a run over any layout, and the status that the run gives the program.
+#![tactic(auto)]
+
+pub mod cells;
+mod nodes;
+mod objects;
+pub mod report;
+pub mod status;
+mod values;
+
+pub use cells::Cells;
+pub use report::report_text;
+pub use status::{RunStatus, status_of_results};
+
+#[cfg(test)]
+mod tests;

@@ -1,0 +1,12 @@
+pub mod Asking
+pub mod Run
+pub mod Simulation
+pub mod PlainOrder
+pub mod Memory
+pub mod Network
+pub mod Running
+pub mod Job
+pub mod Going
+pub mod Picks
+pub mod Ending
+pub mod Outcome

@@ -1,0 +1,10 @@
+pub mod Values
+pub mod Elements
+pub mod Capped
+pub mod Does
+pub mod Expressions
+pub mod Statements
+pub mod Laws
+pub mod Program
+pub mod Built
+pub mod Standing
