@@ -19,12 +19,14 @@ impl Model for Bytes {
 }
 
 impl Bytes {
+    /// The bytes of the vector.
     pub fn from_vec(bytes: Vec<u8>) -> Bytes
         ensures { result ≡ bytes.items }
     {
         Bytes { bytes }
     }
 
+    /// All the bytes, in their order.
     pub fn as_slice(&self) -> &[u8]
         ensures { result.now ≡ self.now }
     {

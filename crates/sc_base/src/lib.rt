@@ -4,6 +4,7 @@
 
 pub mod arithmetic;
 pub mod bytes;
+pub mod copies;
 pub mod limits;
 pub mod operator;
 pub mod shape;
@@ -11,6 +12,7 @@ pub mod value;
 
 pub use arithmetic::{binary, unary};
 pub use bytes::Bytes;
+pub use copies::{copy_of_shape, copy_of_shapes, copy_of_type};
 pub use limits::{LIMITS, Limits};
 pub use operator::{Binary, Unary};
 pub use shape::{Bound, BoundStep, BoundSteps, Bounds, Shape, Star, Stars, Ty};

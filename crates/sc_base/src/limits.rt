@@ -27,6 +27,7 @@ pub struct Limits {
     pub frames: u64,
 }
 
+/// The limits that this product keeps.
 pub const LIMITS: Limits = Limits {
     source: 262144,
     tokens: 65536,

@@ -29,12 +29,14 @@ impl Model for Stars {
 }
 
 impl Stars {
+    /// The stars of the vector, in its order.
     pub fn from_vec(stars: Vec<Star>) -> Stars
         ensures { result ≡ stars.items }
     {
         Stars { stars }
     }
 
+    /// All the stars, in their order.
     pub fn as_slice(&self) -> &[Star]
         ensures { result.now ≡ self.now }
     {
@@ -74,12 +76,14 @@ impl Model for BoundSteps {
 }
 
 impl BoundSteps {
+    /// The steps of the vector, in its order.
     pub fn from_vec(steps: Vec<BoundStep>) -> BoundSteps
         ensures { result ≡ steps.items }
     {
         BoundSteps { steps }
     }
 
+    /// All the steps, in their order.
     pub fn as_slice(&self) -> &[BoundStep]
         ensures { result.now ≡ self.now }
     {
@@ -110,12 +114,14 @@ impl Model for Bounds {
 }
 
 impl Bounds {
+    /// The bounds of the vector, in its order.
     pub fn from_vec(bounds: Vec<Bound>) -> Bounds
         ensures { result ≡ bounds.items }
     {
         Bounds { bounds }
     }
 
+    /// All the bounds, in their order.
     pub fn as_slice(&self) -> &[Bound]
         ensures { result.now ≡ self.now }
     {

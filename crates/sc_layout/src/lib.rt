@@ -2,7 +2,6 @@
 #![tactic(auto)]
 
 mod bounds;
-mod copies;
 pub mod error;
 pub mod laws;
 pub mod layouts;

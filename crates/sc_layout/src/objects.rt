@@ -6,9 +6,8 @@ ghost use Rattle.sc_layout.specs.Place.{place_in, spread_place};
 ghost use Rattle.sc_layout.specs.Small.{IsSmall};
 
 use crate::bounds::values_of;
-use crate::copies::copy_of_shape;
 use crate::error::LayoutError;
-use sc_base::{Place, Shape};
+use sc_base::{Place, Shape, copy_of_shape};
 use std::alloc::Global;
 use std::marker::Model;
 

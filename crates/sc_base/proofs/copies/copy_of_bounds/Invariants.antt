@@ -1,5 +1,5 @@
 use Rattle.std.proofs.Common.{◌≡◌, take}
-use Rattle.sc_layout.proofs.copies.copy_of_bounds.Given as goal
+use Rattle.sc_base.proofs.copies.copy_of_bounds.Given as goal
 
 abbrev pub invariant-loop-bound : goal.invariant-loop-bound
 invariant-loop-bound l = l.copies.items ≡ take l.bound-index l.bound-items
