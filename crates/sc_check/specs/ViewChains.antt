@@ -7,7 +7,7 @@ use Rattle.sc_check.specs.declared.chains.Linked.{Linked}
 use Rattle.sc_check.specs.declared.chains.Gathered.{Gathered}
 
 abbrev pub seen_linked : Linked → operators.Linked
-seen_linked l = record { first = seen l.first; rest = map plain_typed_link l.rest.items; ty = l.ty; standing = l.standing }
+seen_linked l = record { first = seen l.first; rest = map plain_typed_link l.rest.items; ty = l.ty; is_null = l.is_null }
 
 abbrev pub seen_gathered : Gathered → operators.Gathered
 seen_gathered g = record { all = map plain_typed g.all.items; whole = g.whole }

@@ -59,7 +59,7 @@ impl Taken {
             self.whole = false;
             return Ok(());
         };
-        if !fits(&v.ty, v.standing, ty) {
+        if !fits(&v.ty, v.is_null, ty) {
             self.fitting = false;
             return Ok(());
         }

@@ -13,18 +13,20 @@ ghost use Rattle.sc_typing.specs.Known as facts;
 ghost use Rattle.sc_typing.specs.Notes.{Noted, unless};
 ghost use Rattle.sc_typing.specs.ViewKnown.{seen, seen_judged};
 ghost use Rattle.sc_typing.specs.ViewSource.{source_of};
+ghost use Rattle.sc_typing.specs.declared.places.PlaceKind.TheVariants.{NoPlace};
 ghost use Rattle.sc_check.specs.ViewCalls.{seen_fit};
 
 use crate::arguments::{Fit, fitted_among};
 use crate::library::{library_asks, library_rule, library_token, library_type, library_wanted};
-use sc_base::Ty;
+use sc_base::{Ty, copy_of_type};
 use sc_tree::{Named, TypedExpr, TypedKind};
 use sc_typing::calls::Given;
 use sc_typing::file::{Definition, File, Meaning};
-use sc_typing::known::{Judged, Known, Spot, Standing, judgement, valued};
+use sc_typing::known::{Judged, Known, Spot, judgement, valued};
 use sc_typing::library::Library;
 use sc_typing::notes::Notes;
-use sc_typing::types::{copy_of, int};
+use sc_typing::places::PlaceKind;
+use sc_typing::types::int;
 use sqlite_items::{Boxed, Items};
 use std::alloc::{AllocError, Global};
 use std::vec::IntoIter;
@@ -59,10 +61,10 @@ pub fn call_of(
 
 /// A call of a name that means no function, by which the rule is broken.
 fn no_call(notes: &mut Notes, spot: Spot, rule: u32) -> Result<Judged, AllocError>
-    ensures { Noted seen_judged result (facts.judged spot false None) notes.new (unless false spot.at rule notes.old) }
+    ensures { Noted seen_judged result (facts.judged spot NoPlace None) notes.new (unless false spot.at rule notes.old) }
 {
     notes.demand(false, spot.at, rule)?;
-    Ok(judgement(spot, false, None))
+    Ok(judgement(spot, PlaceKind::NoPlace, None))
 }
 
 /// A call of the library.
@@ -85,7 +87,7 @@ fn library_call(
     let at = library_token(library, given, spot);
     notes.demand(fit.kept, at, library_rule(library))?;
     let known = library_value(alloc, given, library, ty, spot, fit)?;
-    Ok(judgement(spot, false, known))
+    Ok(judgement(spot, PlaceKind::NoPlace, known))
 }
 
 /// The value of the call, where its rule is kept and each argument has a type.
@@ -102,11 +104,11 @@ fn library_value(
     if !(fit.kept && fit.whole) {
         return Ok(None);
     }
-    let own = copy_of(alloc, &ty)?;
+    let own = copy_of_type(alloc, &ty)?;
     let Some(kind) = library_form(alloc, given, library, fit.all)? else {
         return Ok(None);
     };
-    let made = valued(alloc, kind, own, ty, Standing::Value, spot)?;
+    let made = valued(alloc, kind, own, ty, false, spot)?;
     Ok(Some(made))
 }
 
@@ -273,7 +275,7 @@ fn function_call(
     let fit = fitted_among(alloc, params, true, js)?;
     notes.demand(fit.kept, spot.at, 19)?;
     let known = function_value(alloc, function, ty, spot, fit)?;
-    Ok(judgement(spot, false, known))
+    Ok(judgement(spot, PlaceKind::NoPlace, known))
 }
 
 /// The types of the function's parameters.
@@ -292,7 +294,7 @@ fn result_of(alloc: Global, definitions: &[Definition], function: u32) -> Result
 {
     match definitions.get(function as usize) {
         None => Ok(int(alloc)),
-        Some(definition) => copy_of(alloc, &definition.result),
+        Some(definition) => copy_of_type(alloc, &definition.result),
     }
 }
 
@@ -309,11 +311,11 @@ fn function_value(
     if !(fit.kept && fit.whole) {
         return Ok(None);
     }
-    let own = copy_of(alloc, &ty)?;
+    let own = copy_of_type(alloc, &ty)?;
     let kind = TypedKind::Call {
         name: Named::Function(function),
         args: Items::from_vec(fit.all),
     };
-    let made = valued(alloc, kind, own, ty, Standing::Value, spot)?;
+    let made = valued(alloc, kind, own, ty, false, spot)?;
     Ok(Some(made))
 }

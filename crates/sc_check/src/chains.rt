@@ -14,23 +14,24 @@ ghost use Rattle.sc_typing.specs.ViewKnown.{seen, seen_judged};
 ghost use Rattle.sc_check.specs.ViewChains.{seen_linked, seen_gathered};
 
 use crate::noting::note_one;
-use sc_base::{Binary, Ty};
+use sc_base::{Binary, Ty, copy_of_type};
 use sc_tree::{TypedExpr, TypedKind, TypedLink};
 use sc_typing::chains::{Level, level_of, link_rule};
-use sc_typing::known::{Judged, Known, Spot, Standing, common, fits, int_value, judgement, valued};
+use sc_typing::known::{Judged, Known, Spot, common, fits, int_value, judgement, valued};
 use sc_typing::notes::Notes;
+use sc_typing::places::PlaceKind;
 use sc_typing::rules::{are_int, are_scalar};
-use sc_typing::types::{copy_of, int, is_int, is_pointer};
+use sc_typing::types::{int, is_int, is_pointer};
 use sqlite_items::{Boxed, Items};
 use std::alloc::{AllocError, Global};
 
-/// A chain from the left so far: its first operand and links, the type of its value, and what that is.
+/// A chain from the left so far: its first operand and links, the type of its value, and whether that is `NULL` or 0.
 #[derive(Drop)]
 pub struct Linked {
     pub first: Known,
     pub rest: Vec<TypedLink>,
     pub ty: Ty,
-    pub standing: Standing,
+    pub is_null: bool,
 }
 
 /// The operands of `&&` or `||` so far, and whether each has a type.
@@ -44,8 +45,7 @@ pub struct Gathered {
 pub fn begin_chain(alloc: Global, j: Judged) -> Result<Option<Linked>, AllocError>
     ensures { IfOk result (λ made. option_map seen_linked made ≡ operators.begin_chain (seen_judged j)) }
 {
-    let kept = are_scalar(&j.known);
-    let Some(first) = j.only(kept) else {
+    let Some(first) = j.used() else {
         return Ok(None);
     };
     let made = first_link(alloc, first)?;
@@ -55,13 +55,13 @@ pub fn begin_chain(alloc: Global, j: Judged) -> Result<Option<Linked>, AllocErro
 fn first_link(alloc: Global, first: Known) -> Result<Linked, AllocError>
     ensures { IfOk result (λ made. seen_linked made ≡ operators.first_link (seen first)) }
 {
-    let ty = copy_of(alloc, &first.ty)?;
-    let standing = first.standing;
+    let ty = copy_of_type(alloc, &first.ty)?;
+    let is_null = first.is_null;
     Ok(Linked {
         first,
         rest: Vec::new(alloc),
         ty,
-        standing,
+        is_null,
     })
 }
 
@@ -126,8 +126,8 @@ fn comparable(a: &Linked, b: &Known) -> bool
     ensures { result ≡ kept.comparable (operators.left_operand (seen_linked a.now)) (seen b.now) }
 {
     (is_int(&a.ty) && is_int(&b.ty))
-        || (is_pointer(&b.ty) && fits(&a.ty, a.standing, &b.ty))
-        || (is_pointer(&a.ty) && fits(&b.ty, b.standing, &a.ty))
+        || (is_pointer(&b.ty) && fits(&a.ty, a.is_null, &b.ty))
+        || (is_pointer(&a.ty) && fits(&b.ty, b.is_null, &a.ty))
 }
 
 /// The chain with one more link.
@@ -186,7 +186,7 @@ fn pushed(
         first: l.first,
         rest,
         ty: l.ty,
-        standing: Standing::Value,
+        is_null: false,
     })
 }
 
@@ -206,7 +206,7 @@ fn pushed_int(
         first: l.first,
         rest,
         ty: int(alloc),
-        standing: Standing::Value,
+        is_null: false,
     })
 }
 
@@ -237,9 +237,9 @@ fn equality(
     at: u32,
     line: u32,
 ) -> Result<Linked, AllocError>
-    ensures { IfOk result (λ made. seen_linked made ≡ operators.equality (seen_linked l) op at line (seen v) (facts.common l.ty l.standing v.ty)) }
+    ensures { IfOk result (λ made. seen_linked made ≡ operators.equality (seen_linked l) op at line (seen v) (facts.common l.ty l.is_null v.ty)) }
 {
-    let ty = common(alloc, &l.ty, l.standing, &v.ty)?;
+    let ty = common(alloc, &l.ty, l.is_null, &v.ty)?;
     let l = with_first(alloc, l, &ty)?;
     let v = v.meets(alloc, &ty)?;
     let made = pushed_int(alloc, l, op, v.e, at, line)?;
@@ -258,7 +258,7 @@ fn with_first(alloc: Global, l: Linked, ty: &Ty) -> Result<Linked, AllocError>
         first,
         rest: l.rest,
         ty: l.ty,
-        standing: l.standing,
+        is_null: l.is_null,
     })
 }
 
@@ -276,22 +276,22 @@ pub fn chained(alloc: Global, spot: Spot, all: Option<Linked>) -> Result<Judged,
     ensures { IfOk result (λ made. seen_judged made ≡ typing.chained spot (option_map seen_linked all)) }
 {
     let Some(l) = all else {
-        return Ok(judgement(spot, false, None));
+        return Ok(judgement(spot, PlaceKind::NoPlace, None));
     };
     let v = chain_value(alloc, spot, l)?;
-    Ok(judgement(spot, false, Some(v)))
+    Ok(judgement(spot, PlaceKind::NoPlace, Some(v)))
 }
 
 fn chain_value(alloc: Global, spot: Spot, l: Linked) -> Result<Known, AllocError>
     ensures { IfOk result (λ made. seen made ≡ operators.chain_value spot (seen_linked l)) }
 {
-    let own = copy_of(alloc, &l.ty)?;
+    let own = copy_of_type(alloc, &l.ty)?;
     let first = l.first;
     let kind = TypedKind::Chain {
         first: first.e,
         rest: Items::from_vec(l.rest),
     };
-    let made = valued(alloc, kind, own, l.ty, Standing::Value, spot)?;
+    let made = valued(alloc, kind, own, l.ty, false, spot)?;
     Ok(made)
 }
 
@@ -333,11 +333,11 @@ pub fn both_of(alloc: Global, spot: Spot, gathered: Gathered) -> Result<Judged, 
     ensures { IfOk result (λ made. seen_judged made ≡ typing.gathered_value typing.both_form spot (seen_gathered gathered)) }
 {
     if !gathered.whole {
-        return Ok(judgement(spot, false, None));
+        return Ok(judgement(spot, PlaceKind::NoPlace, None));
     }
     let kind = TypedKind::And(Items::from_vec(gathered.all));
     let v = int_value(alloc, kind, spot)?;
-    Ok(judgement(spot, false, Some(v)))
+    Ok(judgement(spot, PlaceKind::NoPlace, Some(v)))
 }
 
 /// The operands joined by `||`.
@@ -345,9 +345,9 @@ pub fn either_of(alloc: Global, spot: Spot, gathered: Gathered) -> Result<Judged
     ensures { IfOk result (λ made. seen_judged made ≡ typing.gathered_value typing.either_form spot (seen_gathered gathered)) }
 {
     if !gathered.whole {
-        return Ok(judgement(spot, false, None));
+        return Ok(judgement(spot, PlaceKind::NoPlace, None));
     }
     let kind = TypedKind::Or(Items::from_vec(gathered.all));
     let v = int_value(alloc, kind, spot)?;
-    Ok(judgement(spot, false, Some(v)))
+    Ok(judgement(spot, PlaceKind::NoPlace, Some(v)))
 }

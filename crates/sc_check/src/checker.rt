@@ -6,8 +6,8 @@ ghost use Rattle.sc_tree.specs.ViewTypedTree.{plain_typed_function, plain_typed_
 ghost use Rattle.sc_typing.specs.Answer.{IsAnswer};
 ghost use Rattle.sc_typing.specs.Program as program;
 
-use crate::copies::copy_of_shapes;
 use crate::functions::{definitions_of, file_of};
+use sc_base::copy_of_shapes;
 use sc_layout::Layout;
 use sc_tree::{Lexed, Tree, Typed, TypedFunction};
 use sc_typing::CheckError;

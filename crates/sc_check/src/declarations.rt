@@ -15,13 +15,12 @@ ghost use Rattle.sc_typing.specs.ViewSource.{source_of};
 use crate::noting::note_one;
 use crate::statements::Body;
 use crate::values::{met, unboxed};
-use sc_base::Ty;
+use sc_base::{Ty, copy_of_type};
 use sc_tree::{Expr, Local, TypedExpr, TypedLocal};
 use sc_typing::file::File;
 use sc_typing::notes::Notes;
 use sc_typing::rules::fit;
 use sc_typing::scope::Scope;
-use sc_typing::types::copy_of;
 use sqlite_items::Boxed;
 use std::alloc::AllocError;
 
@@ -106,7 +105,7 @@ impl Body<'_> {
     {
         let init = self.initial(scope, notes, &l.ty, l.at, &l.init)?;
         note_declared(&self.file, scope, notes, from, l.name, l.at)?;
-        let ty = copy_of(self.alloc, &l.ty)?;
+        let ty = copy_of_type(self.alloc, &l.ty)?;
         Ok(TypedLocal {
             name: l.name,
             ty,

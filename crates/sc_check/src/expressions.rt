@@ -9,6 +9,7 @@ ghost use Rattle.sc_typing.specs.Rules as rules;
 ghost use Rattle.sc_typing.specs.Typing as typing;
 ghost use Rattle.sc_typing.specs.ViewKnown.{seen_judged};
 ghost use Rattle.sc_typing.specs.ViewSource.{source_of};
+ghost use Rattle.sc_typing.specs.declared.places.PlaceKind.TheVariants.{NoPlace};
 ghost use Rattle.sc_tree.specs.Plain as tree;
 ghost use Rattle.sc_tree.specs.View.{plain, plain_kind, plain_link, plain_tail, expressions_of, links_of, tails_of};
 ghost use Rattle.sc_check.specs.ViewChains.{seen_gathered};
@@ -36,6 +37,7 @@ use sc_typing::file::{File, Meaning};
 use sc_typing::known::{Judged, Spot, judgement};
 use sc_typing::library::Library;
 use sc_typing::notes::Notes;
+use sc_typing::places::PlaceKind;
 use sc_typing::rules::{are_int, are_pointers, rule_14, rule_16_place, rule_24_cast};
 use sc_typing::scope::Scope;
 use std::alloc::{AllocError, Global};
@@ -247,7 +249,7 @@ impl Sight<'_> {
         ensures { JudgesKind self.now 0 (tree.step up (plain place.now)) spot result notes.old notes.new }
     {
         let place = self.value(notes, 0, place)?;
-        let kept = rule_16_place(true, place.placed, &place.known);
+        let kept = rule_16_place(true, place.place, &place.known);
         note_one(notes, &place, kept, spot.at, 16)?;
         let made = step_of(self.alloc, up, place, spot)?;
         Ok(made)
@@ -446,10 +448,10 @@ impl Sight<'_> {
 
 /// A format that is no argument of `printf`.
 fn misplaced_format(notes: &mut Notes, spot: Spot) -> Result<Judged, AllocError>
-    ensures { Noted seen_judged result (facts.judged spot false None) notes.new (unless false spot.at 22 notes.old) }
+    ensures { Noted seen_judged result (facts.judged spot NoPlace None) notes.new (unless false spot.at 22 notes.old) }
 {
     notes.demand(false, spot.at, 22)?;
-    Ok(judgement(spot, false, None))
+    Ok(judgement(spot, PlaceKind::NoPlace, None))
 }
 
 /// `test ? on : off`

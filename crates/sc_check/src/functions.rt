@@ -12,10 +12,10 @@ use crate::declarations::is_free;
 use crate::file_scope::{is_defined, is_earlier, note_main, note_objects};
 use crate::parameters::{scope_of, typed_params, types_of};
 use crate::statements::Body;
+use sc_base::copy_of_type;
 use sc_tree::{Function, Stmt, Tree, TypedFunction, TypedStmt};
 use sc_typing::file::{Definition, File, number_of};
 use sc_typing::notes::Notes;
-use sc_typing::types::copy_of;
 use sqlite_items::Items;
 use std::alloc::{AllocError, Global};
 
@@ -23,7 +23,7 @@ use std::alloc::{AllocError, Global};
 fn definition_of(alloc: Global, f: &Function) -> Result<Definition, AllocError>
     ensures { IfOk result (λ made. made ≡ program.definition_of (plain_function f.now)) }
 {
-    let result = copy_of(alloc, &f.result)?;
+    let result = copy_of_type(alloc, &f.result)?;
     let params = types_of(alloc, f.params.as_slice())?;
     Ok(Definition {
         name: f.name,
@@ -132,7 +132,7 @@ fn function_of(
     ensures notes { IfOk result (λ _. notes.new
         ≡ notes_of.note_function (source_of file.now) (plain_function f.now) notes.old) }
 {
-    let result = copy_of(alloc, &f.result)?;
+    let result = copy_of_type(alloc, &f.result)?;
     let params = typed_params(alloc, f.params.as_slice())?;
     notes.demand(is_free(file, f.name), f.at, 3)?;
     let body = body_of(alloc, file, notes, f)?;

@@ -5,7 +5,6 @@ pub mod arguments;
 pub mod calls;
 pub mod chains;
 pub mod checker;
-pub mod copies;
 pub mod declarations;
 pub mod expressions;
 pub mod file_scope;

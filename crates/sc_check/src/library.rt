@@ -3,17 +3,16 @@
 ghost use Rattle.std.specs.Prelude.{◌≡◌, ◌∷◌, [], map, take, drop, replicate, true, false, if◌then◌else◌, IfOk};
 ghost use Rattle.std.specs.Option.{option_map};
 ghost use Rattle.sc_typing.specs.Calls as calls;
-ghost use Rattle.sc_typing.specs.Known as facts;
 ghost use Rattle.sc_typing.specs.Types as types;
 ghost use Rattle.sc_typing.specs.ViewKnown.{seen, seen_judged};
 ghost use Rattle.sc_typing.specs.ViewSource.{source_of};
 
-use sc_base::{Star, Ty};
+use sc_base::{Star, Ty, copy_of_type};
 use sc_typing::calls::Given;
 use sc_typing::file::File;
-use sc_typing::known::{Judged, Known, Spot, is_null};
+use sc_typing::known::{Judged, Known, Spot};
 use sc_typing::library::Library;
-use sc_typing::types::{copy_of, element, int, is_pointer, is_wide, last_star, nothing, pointer};
+use sc_typing::types::{element, int, is_pointer, is_wide, last_star, nothing, pointer};
 use std::alloc::{AllocError, Global};
 
 /// The types of the arguments that the function wants.
@@ -151,9 +150,9 @@ fn element_or_int(alloc: Global, known: &Option<Known>) -> Result<Ty, AllocError
 
 /// Whether it is a pointer and not `NULL`.
 fn reaches(v: &Known) -> bool
-    ensures { result ≡ (if types.is_pointer v.now.ty then (if facts.is_null v.now.standing then false else true) else false) }
+    ensures { result ≡ (if types.is_pointer v.now.ty then (if v.now.is_null then false else true) else false) }
 {
-    is_pointer(&v.ty) && !is_null(v.standing)
+    is_pointer(&v.ty) && !v.is_null
 }
 
 /// The type of the first argument, or int.
@@ -171,7 +170,7 @@ fn type_or_int(alloc: Global, known: &Option<Known>) -> Result<Ty, AllocError>
 {
     match known {
         None => Ok(int(alloc)),
-        Some(v) => copy_of(alloc, &v.ty),
+        Some(v) => copy_of_type(alloc, &v.ty),
     }
 }
 

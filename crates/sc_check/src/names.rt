@@ -1,6 +1,6 @@
 //! Names that stand as expressions.
 
-ghost use Rattle.std.specs.Prelude.{◌≡◌, true, false, None, IfOk};
+ghost use Rattle.std.specs.Prelude.{◌≡◌, false, None, IfOk};
 ghost use Rattle.std.specs.Option.{option_copied, option_map};
 ghost use Rattle.sc_typing.specs.ExpressionNotes as notes_of;
 ghost use Rattle.sc_typing.specs.Typing as typing;
@@ -8,23 +8,24 @@ ghost use Rattle.sc_typing.specs.Known as facts;
 ghost use Rattle.sc_typing.specs.Notes.{Noted, unless};
 ghost use Rattle.sc_typing.specs.ViewKnown.{seen, seen_judged};
 ghost use Rattle.sc_typing.specs.ViewSource.{source_of};
+ghost use Rattle.sc_typing.specs.declared.places.PlaceKind.TheVariants.{Unknown};
 
-use sc_base::Shape;
+use sc_base::{Shape, copy_of_type};
 use sc_tree::{Named, TypedKind};
-use sc_typing::file::{File, Meaning, dimensions, has_its_indices, object_standing, object_type};
-use sc_typing::known::{Judged, Known, Spot, Standing, judgement, valued};
+use sc_typing::file::{File, Meaning, dimensions, has_its_indices, object_type};
+use sc_typing::known::{Judged, Known, Spot, judgement, valued};
 use sc_typing::notes::Notes;
+use sc_typing::places::{PlaceKind, object_place};
 use sc_typing::scope::{InScope, Scope};
-use sc_typing::types::copy_of;
 use std::alloc::{AllocError, Global};
 
 fn local_value(alloc: Global, l: &InScope, spot: Spot) -> Result<Known, AllocError>
     ensures { IfOk result (λ made. seen made ≡ typing.local_value l.now spot) }
 {
-    let own = copy_of(alloc, &l.ty)?;
-    let ty = copy_of(alloc, &l.ty)?;
+    let own = copy_of_type(alloc, &l.ty)?;
+    let ty = copy_of_type(alloc, &l.ty)?;
     let kind = TypedKind::Name(Named::Local(l.number));
-    let made = valued(alloc, kind, own, ty, Standing::Local, spot)?;
+    let made = valued(alloc, kind, own, ty, false, spot)?;
     Ok(made)
 }
 
@@ -38,11 +39,10 @@ fn object_value(
 ) -> Result<Known, AllocError>
     ensures { IfOk result (λ made. seen made ≡ typing.object_value o taken object.now spot) }
 {
-    let standing = object_standing(object, taken)?;
     let own = object_type(alloc, object, taken)?;
     let ty = object_type(alloc, object, taken)?;
     let kind = TypedKind::Name(Named::Object(o));
-    let made = valued(alloc, kind, own, ty, standing, spot)?;
+    let made = valued(alloc, kind, own, ty, false, spot)?;
     Ok(made)
 }
 
@@ -76,15 +76,16 @@ fn object_named(
     ensures { Noted seen_judged result (typing.object_named o indices (option_copied object.entry) spot) notes.new (notes_of.note_object indices (option_copied object.entry) spot notes.old) }
 {
     let Some(object) = object else {
-        return Ok(judgement(spot, true, None));
+        return Ok(judgement(spot, PlaceKind::Unknown, None));
     };
     let taken = indices.min(dimensions(object)?);
     let kept = has_its_indices(object, taken)?;
     notes.demand(kept, spot.at, 7)?;
+    let place = object_place(object, taken)?;
     let known = object_if(alloc, kept, o, taken, object, spot)?;
     Ok(Judged {
         start: spot.start,
-        placed: true,
+        place,
         taken,
         known,
     })
@@ -92,10 +93,10 @@ fn object_named(
 
 /// What is no object breaks the rule.
 fn no_object(notes: &mut Notes, rule: u32, spot: Spot) -> Result<Judged, AllocError>
-    ensures { Noted seen_judged result (facts.judged spot true None) notes.new (unless false spot.at rule notes.old) }
+    ensures { Noted seen_judged result (facts.judged spot Unknown None) notes.new (unless false spot.at rule notes.old) }
 {
     notes.demand(false, spot.at, rule)?;
-    Ok(judgement(spot, true, None))
+    Ok(judgement(spot, PlaceKind::Unknown, None))
 }
 
 /// A name that no local has.
@@ -137,7 +138,7 @@ pub fn named(
 {
     if let Some(l) = scope.local(name) {
         let made = local_value(alloc, l, spot)?;
-        return Ok(judgement(spot, true, Some(made)));
+        return Ok(judgement(spot, PlaceKind::Local, Some(made)));
     }
     let meaning = file.meaning(name)?;
     let made = meaning_named(alloc, file, notes, indices, meaning, spot)?;

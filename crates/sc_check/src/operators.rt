@@ -1,31 +1,27 @@
 //! Typed expressions of operators and constants, from judged operands.
 
-ghost use Rattle.std.specs.Prelude.{◌≡◌, Some, pos, if◌then◌else◌, IfOk};
+ghost use Rattle.std.specs.Prelude.{◌≡◌, Some, pos, IfOk};
 ghost use Rattle.std.specs.Option.{option_map};
 ghost use Rattle.std.specs.Ordering.{int_eq};
 ghost use Rattle.sc_typing.specs.Operators as operators;
 ghost use Rattle.sc_typing.specs.Typing as typing;
 ghost use Rattle.sc_typing.specs.ViewKnown.{seen, seen_judged};
-ghost use Rattle.sc_typing.specs.declared.known.Standing.TheVariants as standing;
 ghost use Rattle.sc_tree.specs.PlainTyped as typed;
 ghost use Rattle.sc_tree.specs.ViewTyped.{plain_typed, plain_typed_kind};
 
-use sc_base::{Binary, Star, Stars, Ty, Unary};
+use sc_base::{Binary, Star, Stars, Ty, Unary, copy_of_type};
 use sc_tree::{TypedExpr, TypedKind};
-use sc_typing::known::{Judged, Known, Spot, Standing, common, int_value, judgement, valued};
+use sc_typing::known::{Judged, Known, Spot, common, int_value, judgement, valued};
+use sc_typing::places::{PlaceKind, reached_by};
 use sc_typing::rules;
-use sc_typing::types::{copy_of, element, int, last_star, pointer};
+use sc_typing::types::{element, int, pointer};
 use sqlite_items::Boxed;
 use std::alloc::{AllocError, Global};
 
-fn number_standing(n: i64) -> Standing
-    ensures { result ≡ (if int_eq n (pos 0) then standing.Null else standing.Value) }
+fn is_zero(n: i64) -> bool
+    ensures { result ≡ int_eq n (pos 0) }
 {
-    if n == 0 {
-        Standing::Null
-    } else {
-        Standing::Value
-    }
+    n == 0
 }
 
 /// A number, which becomes null where a pointer is wanted and it is 0.
@@ -33,16 +29,9 @@ fn number_standing(n: i64) -> Standing
 pub fn number_of(alloc: Global, n: i64, spot: Spot) -> Result<Judged, AllocError>
     ensures { IfOk result (λ made. seen_judged made ≡ operators.number_of n spot) }
 {
-    let standing = number_standing(n);
-    let made = valued(
-        alloc,
-        TypedKind::Number(n),
-        int(alloc),
-        int(alloc),
-        standing,
-        spot,
-    )?;
-    Ok(judgement(spot, false, Some(made)))
+    let kind = TypedKind::Number(n);
+    let made = valued(alloc, kind, int(alloc), int(alloc), is_zero(n), spot)?;
+    Ok(judgement(spot, PlaceKind::NoPlace, Some(made)))
 }
 
 /// `NULL`
@@ -51,8 +40,8 @@ pub fn null_constant(alloc: Global, spot: Spot) -> Result<Judged, AllocError>
 {
     let own = pointer(alloc, &int(alloc), Star::Local)?;
     let ty = pointer(alloc, &int(alloc), Star::Local)?;
-    let made = valued(alloc, TypedKind::Null, own, ty, Standing::Null, spot)?;
-    Ok(judgement(spot, false, Some(made)))
+    let made = valued(alloc, TypedKind::Null, own, ty, true, spot)?;
+    Ok(judgement(spot, PlaceKind::NoPlace, Some(made)))
 }
 
 /// An int that is no place.
@@ -60,7 +49,7 @@ pub fn constant(alloc: Global, kind: TypedKind, spot: Spot) -> Result<Judged, Al
     ensures { IfOk result (λ made. seen_judged made ≡ typing.constant (plain_typed_kind kind) spot) }
 {
     let made = int_value(alloc, kind, spot)?;
-    Ok(judgement(spot, false, Some(made)))
+    Ok(judgement(spot, PlaceKind::NoPlace, Some(made)))
 }
 
 fn plus_value(alloc: Global, v: Known, spot: Spot) -> Result<Known, AllocError>
@@ -77,10 +66,10 @@ pub fn plus_of(alloc: Global, j: Judged, spot: Spot) -> Result<Judged, AllocErro
 {
     let kept = rules::are_int(&j.known);
     let Some(v) = j.only(kept) else {
-        return Ok(judgement(spot, false, None));
+        return Ok(judgement(spot, PlaceKind::NoPlace, None));
     };
     let made = plus_value(alloc, v, spot)?;
-    Ok(judgement(spot, false, Some(made)))
+    Ok(judgement(spot, PlaceKind::NoPlace, Some(made)))
 }
 
 fn prefix_kept(op: Unary, known: &Option<Known>) -> bool
@@ -106,29 +95,18 @@ pub fn prefix_of(alloc: Global, op: Unary, j: Judged, spot: Spot) -> Result<Judg
 {
     let kept = prefix_kept(op, &j.known);
     let Some(v) = j.only(kept) else {
-        return Ok(judgement(spot, false, None));
+        return Ok(judgement(spot, PlaceKind::NoPlace, None));
     };
     let made = prefix_value(alloc, op, v, spot)?;
-    Ok(judgement(spot, false, Some(made)))
-}
-
-/// What a pointer with this last star reaches.
-pub fn reached(star: Option<Star>) -> Standing
-    ensures { result ≡ operators.reached star }
-{
-    match star {
-        None => Standing::Value,
-        Some(star) => Standing::Memory(star),
-    }
+    Ok(judgement(spot, PlaceKind::NoPlace, Some(made)))
 }
 
 fn deref_value(alloc: Global, v: Known, spot: Spot) -> Result<Known, AllocError>
     ensures { IfOk result (λ made. seen made ≡ operators.deref_value spot (seen v)) }
 {
-    let standing = reached(last_star(&v.ty));
     let own = element(alloc, &v.ty)?;
     let ty = element(alloc, &v.ty)?;
-    let made = valued(alloc, TypedKind::Deref(v.e), own, ty, standing, spot)?;
+    let made = valued(alloc, TypedKind::Deref(v.e), own, ty, false, spot)?;
     Ok(made)
 }
 
@@ -137,33 +115,34 @@ fn deref_value(alloc: Global, v: Known, spot: Spot) -> Result<Known, AllocError>
 pub fn deref_of(alloc: Global, j: Judged, spot: Spot) -> Result<Judged, AllocError>
     ensures { IfOk result (λ made. seen_judged made ≡ operators.deref_of (seen_judged j) spot) }
 {
+    let place = reached_by(&j.known);
     let kept = rules::are_pointers(&j.known);
     let Some(v) = j.only(kept) else {
-        return Ok(judgement(spot, true, None));
+        return Ok(judgement(spot, place, None));
     };
     let made = deref_value(alloc, v, spot)?;
-    Ok(judgement(spot, true, Some(made)))
+    Ok(judgement(spot, place, Some(made)))
 }
 
 /// The type of a pointer to the place.
-fn address_type(alloc: Global, ty: &Ty, standing: Standing) -> Result<Ty, AllocError>
-    ensures { IfOk result (λ made. made ≡ operators.address_type ty.now standing) }
+fn address_type(alloc: Global, ty: &Ty, place: PlaceKind) -> Result<Ty, AllocError>
+    ensures { IfOk result (λ made. made ≡ operators.address_type ty.now place) }
 {
-    if let Standing::Memory(star) = standing {
+    if let PlaceKind::Memory(Some(star)) = place {
         let made = pointer(alloc, ty, star)?;
         return Ok(made);
     }
-    let made = copy_of(alloc, ty)?;
+    let made = copy_of_type(alloc, ty)?;
     Ok(made)
 }
 
-fn address_value(alloc: Global, v: Known, spot: Spot) -> Result<Known, AllocError>
-    ensures { IfOk result (λ made. seen made ≡ operators.address_value spot (seen v)) }
+fn address_value(alloc: Global, place: PlaceKind, v: Known, spot: Spot) -> Result<Known, AllocError>
+    ensures { IfOk result (λ made. seen made ≡ operators.address_value spot place (seen v)) }
 {
-    let own = address_type(alloc, &v.ty, v.standing)?;
-    let ty = address_type(alloc, &v.ty, v.standing)?;
+    let own = address_type(alloc, &v.ty, place)?;
+    let ty = address_type(alloc, &v.ty, place)?;
     let kind = TypedKind::Address(v.e);
-    let made = valued(alloc, kind, own, ty, Standing::Value, spot)?;
+    let made = valued(alloc, kind, own, ty, false, spot)?;
     Ok(made)
 }
 
@@ -172,12 +151,13 @@ fn address_value(alloc: Global, v: Known, spot: Spot) -> Result<Known, AllocErro
 pub fn address_of(alloc: Global, j: Judged, spot: Spot) -> Result<Judged, AllocError>
     ensures { IfOk result (λ made. seen_judged made ≡ operators.address_of (seen_judged j) spot) }
 {
+    let place = j.place;
     let kept = rules::rule_14(&j);
     let Some(v) = j.only(kept) else {
-        return Ok(judgement(spot, false, None));
+        return Ok(judgement(spot, PlaceKind::NoPlace, None));
     };
-    let made = address_value(alloc, v, spot)?;
-    Ok(judgement(spot, false, Some(made)))
+    let made = address_value(alloc, place, v, spot)?;
+    Ok(judgement(spot, PlaceKind::NoPlace, Some(made)))
 }
 
 fn copied(alloc: Global, stars: &Stars) -> Result<Stars, AllocError>
@@ -201,7 +181,7 @@ fn cast_value(alloc: Global, stars: &Stars, v: Known, spot: Spot) -> Result<Know
     let ty = cast_type(alloc, stars)?;
     let stars = copied(alloc, stars)?;
     let kind = TypedKind::Cast { stars, e: v.e };
-    let made = valued(alloc, kind, own, ty, Standing::Value, spot)?;
+    let made = valued(alloc, kind, own, ty, false, spot)?;
     Ok(made)
 }
 
@@ -213,18 +193,18 @@ pub fn cast_of(alloc: Global, stars: &Stars, j: Judged, spot: Spot) -> Result<Ju
     let to = cast_type(alloc, stars)?;
     let kept = rules::rule_24_cast(&to, &j.known);
     let Some(v) = j.only(kept) else {
-        return Ok(judgement(spot, false, None));
+        return Ok(judgement(spot, PlaceKind::NoPlace, None));
     };
     let made = cast_value(alloc, stars, v, spot)?;
-    Ok(judgement(spot, false, Some(made)))
+    Ok(judgement(spot, PlaceKind::NoPlace, Some(made)))
 }
 
 fn step_value(alloc: Global, up: bool, v: Known, spot: Spot) -> Result<Known, AllocError>
     ensures { IfOk result (λ made. seen made ≡ operators.step_value up spot (seen v)) }
 {
-    let own = copy_of(alloc, &v.ty)?;
+    let own = copy_of_type(alloc, &v.ty)?;
     let kind = TypedKind::Step { up, place: v.e };
-    let made = valued(alloc, kind, own, v.ty, Standing::Value, spot)?;
+    let made = valued(alloc, kind, own, v.ty, false, spot)?;
     Ok(made)
 }
 
@@ -233,12 +213,12 @@ fn step_value(alloc: Global, up: bool, v: Known, spot: Spot) -> Result<Known, Al
 pub fn step_of(alloc: Global, up: bool, j: Judged, spot: Spot) -> Result<Judged, AllocError>
     ensures { IfOk result (λ made. seen_judged made ≡ operators.step_of up (seen_judged j) spot) }
 {
-    let kept = rules::rule_16_place(true, j.placed, &j.known);
+    let kept = rules::rule_16_place(true, j.place, &j.known);
     let Some(v) = j.only(kept) else {
-        return Ok(judgement(spot, false, None));
+        return Ok(judgement(spot, PlaceKind::NoPlace, None));
     };
     let made = step_value(alloc, up, v, spot)?;
-    Ok(judgement(spot, false, Some(made)))
+    Ok(judgement(spot, PlaceKind::NoPlace, Some(made)))
 }
 
 fn set_value(
@@ -250,13 +230,13 @@ fn set_value(
 ) -> Result<Known, AllocError>
     ensures { IfOk result (λ made. seen made ≡ operators.set_value op spot (seen a) (seen b)) }
 {
-    let own = copy_of(alloc, &a.ty)?;
+    let own = copy_of_type(alloc, &a.ty)?;
     let kind = TypedKind::Assign {
         op,
         left: a.e,
         right: b.e,
     };
-    let made = valued(alloc, kind, own, a.ty, Standing::Value, spot)?;
+    let made = valued(alloc, kind, own, a.ty, false, spot)?;
     Ok(made)
 }
 
@@ -305,8 +285,8 @@ fn assign_of(alloc: Global, left: Judged, right: Judged, spot: Spot) -> Result<J
     ensures { IfOk result (λ made. seen_judged made ≡ operators.assign_of (seen_judged left) (seen_judged right) spot) }
 {
     let kept = rules::rule_15(&left, &right);
-    let made = assigned(alloc, left.only(kept), right.known, spot)?;
-    Ok(judgement(spot, false, made))
+    let made = assigned(alloc, left.only(kept), right.used(), spot)?;
+    Ok(judgement(spot, PlaceKind::NoPlace, made))
 }
 
 #[tactic(auto, unfolding(sc_typing::specs::Operators::compound_of))]
@@ -320,8 +300,8 @@ fn compound_of(
     ensures { IfOk result (λ made. seen_judged made ≡ operators.compound_of op (seen_judged left) (seen_judged right) spot) }
 {
     let kept = rules::rule_16(op, &left, &right);
-    let made = compounded(alloc, op, left.only(kept), right.known, spot)?;
-    Ok(judgement(spot, false, made))
+    let made = compounded(alloc, op, left.only(kept), right.used(), spot)?;
+    Ok(judgement(spot, PlaceKind::NoPlace, made))
 }
 
 /// `=`, or a compound assignment where there is an operator.
@@ -355,13 +335,13 @@ fn choice_value(
 {
     let a = a.meets(alloc, &ty)?;
     let b = b.meets(alloc, &ty)?;
-    let own = copy_of(alloc, &ty)?;
+    let own = copy_of_type(alloc, &ty)?;
     let kind = TypedKind::Cond {
         test,
         yes: a.e,
         no: b.e,
     };
-    let made = valued(alloc, kind, own, ty, Standing::Value, spot)?;
+    let made = valued(alloc, kind, own, ty, false, spot)?;
     Ok(made)
 }
 
@@ -374,7 +354,7 @@ fn chosen_value(
 ) -> Result<Known, AllocError>
     ensures { IfOk result (λ made. seen made ≡ operators.chosen_value spot (seen t) (seen a) (seen b)) }
 {
-    let ty = common(alloc, &a.ty, a.standing, &b.ty)?;
+    let ty = common(alloc, &a.ty, a.is_null, &b.ty)?;
     let made = choice_value(alloc, t.e, ty, a, b, spot)?;
     Ok(made)
 }
@@ -402,15 +382,6 @@ fn chosen(
     Ok(Some(made))
 }
 
-/// Whether the arms fit, and none of them is void.
-fn arms_kept(on: &Judged, off: &Judged) -> bool
-    ensures { result ≡ operators.arms_kept (seen_judged on.now) (seen_judged off.now) }
-{
-    rules::rule_24_arms(&on.known, &off.known)
-        && rules::are_scalar(&on.known)
-        && rules::are_scalar(&off.known)
-}
-
 /// `test ? on : off`
 #[tactic(auto, unfolding(sc_typing::specs::Operators::choice_of))]
 pub fn choice_of(
@@ -422,7 +393,7 @@ pub fn choice_of(
 ) -> Result<Judged, AllocError>
     ensures { IfOk result (λ made. seen_judged made ≡ operators.choice_of (seen_judged test) (seen_judged on) (seen_judged off) spot) }
 {
-    let kept = arms_kept(&on, &off) && rules::are_scalar(&test.known);
-    let made = chosen(alloc, test.only(kept), on.known, off.known, spot)?;
-    Ok(judgement(spot, false, made))
+    let kept = rules::are_scalar(&test.known) && rules::rule_24_arms(&on.known, &off.known);
+    let made = chosen(alloc, test.only(kept), on.used(), off.used(), spot)?;
+    Ok(judgement(spot, PlaceKind::NoPlace, made))
 }

@@ -7,12 +7,11 @@ ghost use Rattle.sc_typing.specs.Scope.{nothing_in_scope};
 ghost use Rattle.sc_typing.specs.ViewSource.{source_of};
 
 use crate::declarations::{note_declared, token_behind};
-use sc_base::{Star, Ty};
+use sc_base::{Star, Ty, copy_of_type};
 use sc_tree::{Param, TypedParam};
 use sc_typing::file::File;
 use sc_typing::notes::Notes;
 use sc_typing::scope::Scope;
-use sc_typing::types::copy_of;
 use std::alloc::{AllocError, Global};
 
 /// How many tokens the stars are.
@@ -115,7 +114,7 @@ pub fn scope_of(
 fn typed_param(alloc: Global, p: &Param) -> Result<TypedParam, AllocError>
     ensures { IfOk result (λ made. made ≡ program.typed_param p.now) }
 {
-    let ty = copy_of(alloc, &p.ty)?;
+    let ty = copy_of_type(alloc, &p.ty)?;
     Ok(TypedParam {
         name: p.name,
         ty,
@@ -138,7 +137,7 @@ pub fn types_of(alloc: Global, params: &[Param]) -> Result<Vec<Ty>, AllocError>
 {
     let mut made = Vec::new(alloc);
     for p in params {
-        made.push(copy_of(alloc, &p.ty)?)?;
+        made.push(copy_of_type(alloc, &p.ty)?)?;
     }
     Ok(made)
 }

@@ -61,7 +61,7 @@ fn split_of(
     ensures { IfOk result (λ made. plain_typed_stmt made
         ≡ typed.typed_split (seen_judged left) (seen_judged right) oneway at line) }
 {
-    let right = sent(alloc, &left.known, right)?;
+    let right = sent(alloc, left.place, &left.known, right)?;
     let left = left.into_expr(alloc)?;
     let made = TypedStmt::Split {
         left: left.into_inner(),
@@ -171,7 +171,7 @@ impl Body<'_> {
             line,
         };
         let judged = named(self.alloc, &self.file, scope, notes, 0, n, spot)?;
-        notes.demand(rule_24_name(&judged.known), at, 24)?;
+        notes.demand(rule_24_name(&judged), at, 24)?;
         Ok(local_number(scope.local(n)))
     }
 

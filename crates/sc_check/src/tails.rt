@@ -8,33 +8,34 @@ ghost use Rattle.sc_tree.specs.ViewTyped.{plain_typed, plain_typed_tail};
 ghost use Rattle.sc_typing.specs.Operators as operators;
 ghost use Rattle.sc_typing.specs.ExpressionNotes as notes_of;
 ghost use Rattle.sc_typing.specs.Typing as typing;
+ghost use Rattle.sc_typing.specs.Places as places;
 ghost use Rattle.sc_typing.specs.ViewKnown.{seen, seen_judged};
 ghost use Rattle.sc_check.specs.ViewTails.{seen_tailed, seen_tailing};
 
 use crate::noting::note_one;
-use sc_base::{Star, Ty};
+use sc_base::{Ty, copy_of_type};
 use sc_tree::{TypedExpr, TypedKind, TypedTail};
-use sc_typing::known::{Judged, Known, Spot, Standing, is_settable, judgement, valued};
+use sc_typing::known::{Judged, Known, Spot, judgement, valued};
 use sc_typing::notes::Notes;
-use sc_typing::rules::{are_int, are_scalar};
-use sc_typing::types::{copy_of, element, is_int, is_pointer, last_star};
+use sc_typing::places::{PlaceKind, may_be_set};
+use sc_typing::rules::are_int;
+use sc_typing::types::{element, is_int, is_pointer, last_star};
 use sqlite_items::{Boxed, Items};
 use std::alloc::{AllocError, Global};
 
-/// A postfix expression so far: its first part and what stands behind it, its type, and what it is.
+/// A postfix expression so far: its first part and what stands behind it, its type, and whether it is `NULL` or 0.
 #[derive(Drop)]
 pub struct Tailed {
     pub first: Boxed<TypedExpr>,
     pub rest: Vec<TypedTail>,
     pub ty: Ty,
-    pub standing: Standing,
+    pub is_null: bool,
 }
 
-/// It, where it has a type, with whether its form is that of a place, and how many of the next indices belong to its
-/// object.
+/// It, where it has a type, with which place it is, and how many of the next indices belong to its object.
 #[derive(Drop)]
 pub struct Tailing {
-    pub placed: bool,
+    pub place: PlaceKind,
     pub skip: usize,
     pub tailed: Option<Tailed>,
 }
@@ -43,15 +44,14 @@ pub struct Tailing {
 pub fn begin_tails(alloc: Global, j: Judged) -> Result<Tailing, AllocError>
     ensures { IfOk result (λ made. seen_tailing made ≡ operators.begin_tails (seen_judged j)) }
 {
-    let placed = j.placed;
+    let place = j.place;
     let skip = j.taken;
-    let kept = are_scalar(&j.known);
-    let tailed = match j.only(kept) {
+    let tailed = match j.used() {
         None => None,
         Some(v) => Some(first_tail(alloc, v)),
     };
     Ok(Tailing {
-        placed,
+        place,
         skip,
         tailed,
     })
@@ -64,7 +64,7 @@ fn first_tail(alloc: Global, v: Known) -> Tailed
         first: v.e,
         rest: Vec::new(alloc),
         ty: v.ty,
-        standing: v.standing,
+        is_null: v.is_null,
     }
 }
 
@@ -114,16 +114,17 @@ fn own_index(t: Tailing, index: Judged, at: u32, line: u32) -> Result<Tailing, A
     ensures { IfOk result (λ made. seen_tailing made ≡ operators.own_index (seen_tailing t) (seen_judged index) at line) }
 {
     let skip = t.skip.saturating_sub(1);
+    let place = t.place;
     let kept = are_int(&index.known);
     let Some(tailed) = t.tailed else {
-        return Ok(without_type(skip));
+        return Ok(without_type(place, skip));
     };
     let Some(v) = index.only(kept) else {
-        return Ok(without_type(skip));
+        return Ok(without_type(place, skip));
     };
     let tailed = with_own_index(tailed, v, at, line)?;
     Ok(Tailing {
-        placed: true,
+        place,
         skip,
         tailed: Some(tailed),
     })
@@ -140,27 +141,28 @@ fn pointer_index(
 ) -> Result<Tailing, AllocError>
     ensures { IfOk result (λ made. seen_tailing made ≡ operators.pointer_index (seen_tailing t) (seen_judged index) at line) }
 {
+    let place = reached(&t.tailed);
     let kept = are_int(&index.known) && pointed(&t);
     let Some(tailed) = t.tailed else {
-        return Ok(without_type(0));
+        return Ok(without_type(place, 0));
     };
     let Some(v) = index.only(kept) else {
-        return Ok(without_type(0));
+        return Ok(without_type(place, 0));
     };
     let tailed = with_index(alloc, tailed, v, at, line)?;
     Ok(Tailing {
-        placed: true,
+        place,
         skip: 0,
         tailed: Some(tailed),
     })
 }
 
 /// An indexed expression in which a rule is broken.
-fn without_type(skip: usize) -> Tailing
-    ensures { seen_tailing result ≡ record { placed = true; skip = skip; tailed = None } }
+fn without_type(place: PlaceKind, skip: usize) -> Tailing
+    ensures { seen_tailing result ≡ record { place = place; skip = skip; tailed = None } }
 {
     Tailing {
-        placed: true,
+        place,
         skip,
         tailed: None,
     }
@@ -176,33 +178,32 @@ fn with_own_index(t: Tailed, v: Known, at: u32, line: u32) -> Result<Tailed, All
         first: t.first,
         rest,
         ty: t.ty,
-        standing: t.standing,
+        is_null: false,
     })
+}
+
+/// The memory place that what stands before an index reaches.
+fn reached(tailed: &Option<Tailed>) -> PlaceKind
+    ensures { result ≡ places.reached_by (option_map operators.value_so_far (option_map seen_tailed tailed.now)) }
+{
+    match tailed {
+        None => PlaceKind::Memory(None),
+        Some(tailed) => PlaceKind::Memory(last_star(&tailed.ty)),
+    }
 }
 
 fn with_index(alloc: Global, t: Tailed, v: Known, at: u32, line: u32) -> Result<Tailed, AllocError>
     ensures { IfOk result (λ made. seen_tailed made ≡ operators.with_index at line (seen_tailed t) (seen v)) }
 {
     let ty = element(alloc, &t.ty)?;
-    let standing = reached(last_star(&t.ty));
     let mut rest = t.rest;
     push_index(&mut rest, v.e, at, line)?;
     Ok(Tailed {
         first: t.first,
         rest,
         ty,
-        standing,
+        is_null: false,
     })
-}
-
-/// What a pointer with this last star reaches.
-fn reached(star: Option<Star>) -> Standing
-    ensures { result ≡ operators.reached star }
-{
-    match star {
-        None => Standing::Value,
-        Some(star) => Standing::Memory(star),
-    }
 }
 
 fn push_index(
@@ -234,14 +235,12 @@ pub fn note_step(notes: &mut Notes, t: &Tailing, at: u32) -> Result<(), AllocErr
 fn stepped(t: &Tailing) -> bool
     ensures { result ≡ operators.stepped (seen_tailing t.now) }
 {
-    if !t.placed {
+    if !may_be_set(t.place) {
         return false;
     }
     match &t.tailed {
         None => true,
-        Some(tailed) => {
-            is_settable(tailed.standing) && (is_int(&tailed.ty) || is_pointer(&tailed.ty))
-        }
+        Some(tailed) => { is_int(&tailed.ty) || is_pointer(&tailed.ty) }
     }
 }
 
@@ -253,14 +252,14 @@ pub fn step_tail(t: Tailing, up: bool, at: u32, line: u32) -> Result<Tailing, Al
     let kept = stepped(&t);
     let Some(tailed) = kept_tail(kept, t.tailed) else {
         return Ok(Tailing {
-            placed: false,
+            place: PlaceKind::NoPlace,
             skip: 0,
             tailed: None,
         });
     };
     let tailed = with_step(tailed, up, at, line)?;
     Ok(Tailing {
-        placed: false,
+        place: PlaceKind::NoPlace,
         skip: 0,
         tailed: Some(tailed),
     })
@@ -281,7 +280,7 @@ fn with_step(t: Tailed, up: bool, at: u32, line: u32) -> Result<Tailed, AllocErr
         first: t.first,
         rest,
         ty: t.ty,
-        standing: Standing::Value,
+        is_null: false,
     })
 }
 
@@ -300,22 +299,22 @@ fn push_step(rest: &mut Vec<TypedTail>, up: bool, at: u32, line: u32) -> Result<
 pub fn finish(alloc: Global, spot: Spot, all: Tailing) -> Result<Judged, AllocError>
     ensures { IfOk result (λ made. seen_judged made ≡ typing.tailed spot (seen_tailing all)) }
 {
-    let placed = all.placed;
+    let place = all.place;
     let Some(t) = all.tailed else {
-        return Ok(judgement(spot, placed, None));
+        return Ok(judgement(spot, place, None));
     };
     let v = postfix_value(alloc, spot, t)?;
-    Ok(judgement(spot, placed, Some(v)))
+    Ok(judgement(spot, place, Some(v)))
 }
 
 fn postfix_value(alloc: Global, spot: Spot, t: Tailed) -> Result<Known, AllocError>
     ensures { IfOk result (λ made. seen made ≡ operators.postfix_value spot (seen_tailed t)) }
 {
-    let own = copy_of(alloc, &t.ty)?;
+    let own = copy_of_type(alloc, &t.ty)?;
     let kind = TypedKind::Postfix {
         first: t.first,
         tails: Items::from_vec(t.rest),
     };
-    let made = valued(alloc, kind, own, t.ty, t.standing, spot)?;
+    let made = valued(alloc, kind, own, t.ty, t.is_null, spot)?;
     Ok(made)
 }

@@ -17,8 +17,9 @@ use crate::noting::{note_one, note_tested, note_used};
 use crate::statements::Body;
 use sc_base::Ty;
 use sc_tree::{Expr, TypedExpr};
-use sc_typing::known::{Judged, Known, is_global, missing};
+use sc_typing::known::{Judged, Known, missing};
 use sc_typing::notes::Notes;
+use sc_typing::places::{PlaceKind, may_be_global};
 use sc_typing::rules::are_int;
 use sc_typing::scope::Scope;
 use sqlite_items::Boxed;
@@ -36,19 +37,20 @@ pub fn met(alloc: Global, judged: Judged, ty: &Ty) -> Result<Boxed<TypedExpr>, A
     Ok(known.e)
 }
 
-/// The right side of a split-phase assignment with this left side.
+/// The right side of a split-phase assignment whose left side is this place.
 pub fn sent(
     alloc: Global,
+    place: PlaceKind,
     left: &Option<Known>,
     right: Judged,
 ) -> Result<Boxed<TypedExpr>, AllocError>
-    ensures { IfOk result (λ e. plain_typed e ≡ typed.sent_expression (option_map seen left.now) (seen_judged right)) }
+    ensures { IfOk result (λ e. plain_typed e ≡ typed.sent_as place (option_map seen left.now) (seen_judged right)) }
 {
     let Some(known) = left else {
         let e = right.into_expr(alloc)?;
         return Ok(e);
     };
-    if is_global(known.standing) {
+    if may_be_global(place) {
         let e = met(alloc, right, &known.ty)?;
         return Ok(e);
     }

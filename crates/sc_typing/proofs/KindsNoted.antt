@@ -178,10 +178,10 @@ module _ (c : Source) (locals : List InScope) (i start at line : ℕ) where
   exact-step is_up e h =
       exact-as (one_broken Broken.step_place Broken.step_broken) fro
       (exact-then h (exact-one (known_of c locals e)
-      (Rules.rule_16_place true (known_of c locals e).placed (known_of c locals e).known) at 16))
+      (Rules.rule_16_place true (known_of c locals e).place (known_of c locals e).known) at 16))
     where
       fro : (b : Breach) → Inside c locals i (expression (step is_up e) start at line) b →
-          One c locals e (Rules.rule_16_place true (known_of c locals e).placed (known_of c locals e).known) at 16 b
+          One c locals e (Rules.rule_16_place true (known_of c locals e).place (known_of c locals e).known) at 16 b
       fro b (here (Broken.step_broken f)) = inr (inr (fails f))
       fro b (here (sign_no_int s f)) = elim s [ ]
       fro b (here (test_no_scalar s f)) = elim s [ ]

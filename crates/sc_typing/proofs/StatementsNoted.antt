@@ -149,7 +149,7 @@ module _ (w : Within) (looped : Bool) (from : ℕ) (s : Scope) where
   NameOfTurns n at line b = Breaks w.source s.locals 0 at at line (name n) b
 
   abbrev kept_turns : (n at line : ℕ) → Bool
-  kept_turns n at line = Rules.rule_24_name (named w.source s.locals 0 n (spot_at at line)).known
+  kept_turns n at line = Rules.rule_24_name (named w.source s.locals 0 n (spot_at at line))
 
   abbrev Turns : (n at line : ℕ) → Breach → Type 0
   Turns n at line = Either (NameOfTurns n at line) (Fails (kept_turns n at line) at 24)

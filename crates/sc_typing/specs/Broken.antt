@@ -118,7 +118,7 @@ pub data Breaks (c : Source) (locals : List InScope) (indices : ℕ) (start at l
   address_no_memory : {e : Expression} → Rules.rule_14 (known_of c locals e) ≡ false → Breaks c locals indices start at line (address e) (breach at 14)
   assign_broken : {left right : Expression} → Rules.rule_15 (known_of c locals left) (known_of c locals right) ≡ false → Breaks c locals indices start at line (assign None left right) (breach at 15)
   compound_broken : {op : Binary} {left right : Expression} → Rules.rule_16 op (known_of c locals left) (known_of c locals right) ≡ false → Breaks c locals indices start at line (assign (Some op) left right) (breach at 16)
-  step_broken : {is_up : Bool} {e : Expression} → Rules.rule_16_place true (known_of c locals e).placed (known_of c locals e).known ≡ false → Breaks c locals indices start at line (step is_up e) (breach at 16)
+  step_broken : {is_up : Bool} {e : Expression} → Rules.rule_16_place true (known_of c locals e).place (known_of c locals e).known ≡ false → Breaks c locals indices start at line (step is_up e) (breach at 16)
   up_broken : {first : Expression} {rest : Tails} {t : Tailing} {at_step line_step : ℕ} → IsTail c locals t (up at_step line_step) (begun_tails c locals first rest) rest → stepped t ≡ false → Breaks c locals indices start at line (postfix first rest) (breach at_step 16)
   down_broken : {first : Expression} {rest : Tails} {t : Tailing} {at_step line_step : ℕ} → IsTail c locals t (down at_step line_step) (begun_tails c locals first rest) rest → stepped t ≡ false → Breaks c locals indices start at line (postfix first rest) (breach at_step 16)
   arguments_broken : {n function : ℕ} {args : Expressions} → called_meaning c locals n ≡ Some (means.Function function) → (function_fit c function (arguments_of c locals n args)).kept ≡ false → Breaks c locals indices start at line (call n args) (breach at 19)
@@ -218,7 +218,7 @@ pub data StatementBreaks (w : Within) (p : Place) : Statement → Breach → Typ
   break_outside : {at : ℕ} → Rules.rule_21 p.looped ≡ false → StatementBreaks w p (break at) (breach at 21)
   continue_outside : {at : ℕ} → Rules.rule_21 p.looped ≡ false → StatementBreaks w p (continue at) (breach at 21)
   void_used : {there : Scope} {e : Expression} {it : Statement} → Uses p.scope there e it → Rules.rule_24_value (judged_at w there e).known ≡ false → StatementBreaks w p it (breach (judged_at w there e).start 24)
-  turns_broken : {n : ℕ} {bound : Expression} {body : Statement} {at line : ℕ} → Rules.rule_24_name (named w.source p.scope.locals 0 n (spot_at at line)).known ≡ false → StatementBreaks w p (for_mine n bound body at line) (breach at 24)
+  turns_broken : {n : ℕ} {bound : Expression} {body : Statement} {at line : ℕ} → Rules.rule_24_name (named w.source p.scope.locals 0 n (spot_at at line)) ≡ false → StatementBreaks w p (for_mine n bound body at line) (breach at 24)
   turns_name : {n : ℕ} {bound : Expression} {body : Statement} {at line : ℕ} {b : Breach} → Breaks w.source p.scope.locals 0 at at line (name n) b → StatementBreaks w p (for_mine n bound body at line) b
   bound_no_int : {n : ℕ} {bound : Expression} {body : Statement} {at line : ℕ} → Rules.rule_24_bound (judged_at w p.scope bound).known ≡ false → StatementBreaks w p (for_mine n bound body at line) (breach (judged_at w p.scope bound).start 24)
 

@@ -16,9 +16,9 @@ use Rattle.sc_typing.specs.declared.file.Meaning.TheVariants as means
 use Rattle.sc_typing.specs.declared.library.Library.{Library}
 use Rattle.sc_typing.specs.declared.library.Library.TheVariants as lib
 use Rattle.sc_typing.specs.declared.known.Spot.{Spot}
-use Rattle.sc_typing.specs.declared.known.Standing.TheVariants as standing
+use Rattle.sc_typing.specs.declared.places.PlaceKind.TheVariants.{NoPlace}
 use Rattle.sc_typing.specs.Types.{int, nothing, pointer, element, last_star, is_pointer, is_wide}
-use Rattle.sc_typing.specs.Known.{Valued, valued, expression_of, fits, meets, is_null, Judgement, judged}
+use Rattle.sc_typing.specs.Known.{Valued, valued, expression_of, fits, meets, Judgement, judged, used}
 use Rattle.sc_typing.specs.Rules
 use Rattle.sc_typing.specs.Source.{Source, directives_of}
 
@@ -32,7 +32,7 @@ pub record Taken : Type 0 where
 
 abbrev pub take_value : Taken → Ty → Valued → Taken
 take_value t ty v =
-    if fits v.ty v.standing ty
+    if fits v.ty v.is_null ty
     then record { fitting = t.fitting; whole = t.whole; next = t.next + 1; all = t.all ++ expression_of (meets v ty) ∷ [] }
     else record { fitting = false; whole = t.whole; next = t.next + 1; all = t.all }
 
@@ -55,7 +55,7 @@ arguments_fit wanted t = t.fitting && (t.next == length wanted)
 -- the type that the first argument of a pointer type that is not `NULL` reaches, and int where there is none
 abbrev pub element_or : Option Valued → Ty → Ty
 element_or None otherwise = otherwise
-element_or (Some v) otherwise = if is_pointer v.ty then (if is_null v.standing then otherwise else element v.ty) else otherwise
+element_or (Some v) otherwise = if is_pointer v.ty then (if v.is_null then otherwise else element v.ty) else otherwise
 
 abbrev pub element_among : List Judgement → Ty
 element_among [] = int
@@ -194,7 +194,7 @@ library_form given lib.BulkPut es = of_three (copy_form lib.BulkPut) es
 library_form given lib.BulkStore es = of_three (copy_form lib.BulkStore) es
 
 abbrev pub call_value : Spot → Ty → TypedForm → Valued
-call_value spot ty form = valued form ty standing.Value spot
+call_value spot ty form = valued form ty false spot
 
 -- the form, where the rule is kept and each argument has a type
 abbrev pub form_if : Bool → Option TypedForm → Option TypedForm
@@ -223,7 +223,7 @@ library_value given library js spot f =
     option_map (call_value spot (library_type js library)) (form_if (f.kept && f.whole) (library_form given library f.all))
 
 unfoldable pub library_call : Source → Library → Option Given → List Judgement → Spot → Judgement
-library_call c library given js spot = judged spot false (library_value given library js spot (fitted_of c library given js))
+library_call c library given js spot = judged spot NoPlace (library_value given library js spot (fitted_of c library given js))
 
 -- Rule 19: a call has as many arguments as the function has parameters, and each fits.
 abbrev pub function_fit : Source → ℕ → List Judgement → Fit
@@ -237,12 +237,12 @@ function_value c function spot f =
     option_map (call_value spot (result_of (slice_get c.definitions function))) (form_if (f.kept && f.whole) (Some (call_form function f.all)))
 
 unfoldable pub function_call : Source → ℕ → List Judgement → Spot → Judgement
-function_call c function js spot = judged spot false (function_value c function spot (function_fit c function js))
+function_call c function js spot = judged spot NoPlace (function_value c function spot (function_fit c function js))
 
 -- A name that means no function gives no value.
 unfoldable pub call_of : Source → Option Meaning → Option Given → List Judgement → Spot → Judgement
-call_of c None given js spot = judged spot false None
+call_of c None given js spot = judged spot NoPlace None
 call_of c (Some (means.Library library)) given js spot = library_call c library given js spot
 call_of c (Some (means.Function function)) given js spot = function_call c function js spot
-call_of c (Some (means.Object _)) given js spot = judged spot false None
-call_of c (Some means.Nothing) given js spot = judged spot false None
+call_of c (Some (means.Object _)) given js spot = judged spot NoPlace None
+call_of c (Some means.Nothing) given js spot = judged spot NoPlace None

@@ -121,7 +121,7 @@ abbrev mutual
   note_kind c locals indices (assign op left right) spot broken =
       note_set op (judge c locals 0 left) (judge c locals 0 right) spot (note_value c locals 0 right (note_value c locals 0 left broken))
   note_kind c locals indices (step is_up place) spot broken =
-      note_one (judge c locals 0 place) (Rules.rule_16_place true (judge c locals 0 place).placed (judge c locals 0 place).known) spot.at 16
+      note_one (judge c locals 0 place) (Rules.rule_16_place true (judge c locals 0 place).place (judge c locals 0 place).known) spot.at 16
       (note_value c locals 0 place broken)
   note_kind c locals indices (plus e) spot broken =
       note_one (judge c locals 0 e) (Rules.rule_9 (judge c locals 0 e).known) spot.at 9 (note_value c locals 0 e broken)

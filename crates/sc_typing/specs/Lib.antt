@@ -5,6 +5,7 @@ pub mod ExpressionNotes
 pub mod Known
 pub mod Notes
 pub mod Operators
+pub mod Places
 pub mod Program
 pub mod ProgramNotes
 pub mod Rules

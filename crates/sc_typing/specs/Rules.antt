@@ -20,7 +20,9 @@ use Rattle.sc_typing.specs.declared.scope.InScope.{InScope}
 use Rattle.sc_typing.specs.Types.{int, pointer, element, same_type, is_int, is_pointer, is_wide, last_star}
 use Rattle.sc_typing.specs.Scope.{Scope, innermost, declared_since}
 use Rattle.sc_typing.specs.Source.{Source, library_named, meaning_of, dimensions, has_its_indices}
-use Rattle.sc_typing.specs.Known.{Valued, Judgement, fits, is_memory, is_settable, is_global}
+use Rattle.sc_typing.specs.declared.places.PlaceKind.{PlaceKind}
+use Rattle.sc_typing.specs.Known.{Valued, Judgement, fits}
+use Rattle.sc_typing.specs.Places.{may_be_memory, may_be_local, may_be_set, may_be_global, may_be_other}
 
 abbrev pub opposite : Bool → Bool
 opposite true = false
@@ -132,7 +134,7 @@ abbrev pub are_pointers : Option Valued → Bool
 are_pointers known = passes (λ v. is_pointer v.ty) known
 
 abbrev pub fit : Option Valued → Ty → Bool
-fit known ty = passes (λ v. fits v.ty v.standing ty) known
+fit known ty = passes (λ v. fits v.ty v.is_null ty) known
 
 -- Rule 7: an object has as many indices as it may, of those that stand behind its name.
 abbrev pub rule_7 : Shape → (indices : ℕ) → Bool
@@ -150,8 +152,8 @@ rule_9 operand = are_int operand
 abbrev pub comparable : Valued → Valued → Bool
 comparable a b =
     (is_int a.ty && is_int b.ty)
-    || (is_pointer b.ty && fits a.ty a.standing b.ty)
-    || (is_pointer a.ty && fits b.ty b.standing a.ty)
+    || (is_pointer b.ty && fits a.ty a.is_null b.ty)
+    || (is_pointer a.ty && fits b.ty b.is_null a.ty)
 
 abbrev pub rule_10 : Option Valued → Option Valued → Bool
 rule_10 left right = passes (λ a. passes (λ b. comparable a b) right) left
@@ -170,18 +172,20 @@ rule_13 pointed = are_pointers pointed
 
 -- Rule 14: the operand of `&` is a memory place.
 abbrev pub rule_14 : Judgement → Bool
-rule_14 e = e.placed && passes (λ v. is_memory v.standing) e.known
+rule_14 e = may_be_memory e.place
+
+-- the right side fits the type of the left one
+abbrev pub fit_left : Judgement → Judgement → Bool
+fit_left left right = passes (λ v. fit right.known v.ty) left.known
 
 -- Rule 15: the left side of `=` is a local or a memory place, and the right side fits its type.
 abbrev pub rule_15 : Judgement → Judgement → Bool
-rule_15 left right =
-    left.placed && passes (λ v. is_settable v.standing && fit right.known v.ty) left.known
+rule_15 left right = may_be_set left.place && fit_left left right
 
 -- Rule 16: the left side of a compound assignment, `++` or `--` is a local or memory place of type int, or for
 -- `+=`, `-=`, `++` and `--` of a pointer type. The right side is an int.
-abbrev pub rule_16_place : (moves placed : Bool) → Option Valued → Bool
-rule_16_place moves placed known =
-    placed && passes (λ v. is_settable v.standing && (is_int v.ty || (moves && is_pointer v.ty))) known
+abbrev pub rule_16_place : (moves : Bool) → PlaceKind → Option Valued → Bool
+rule_16_place moves place known = may_be_set place && passes (λ v. is_int v.ty || (moves && is_pointer v.ty)) known
 
 abbrev pub moves : Binary → Bool
 moves op.Add = true
@@ -189,23 +193,25 @@ moves op.Sub = true
 moves _ = false
 
 abbrev pub rule_16 : Binary → Judgement → Judgement → Bool
-rule_16 op left right = rule_16_place (moves op) left.placed left.known && are_int right.known
+rule_16 op left right = rule_16_place (moves op) left.place left.known && are_int right.known
 
 -- Rule 17: in `:=`, either the left side is a global place and the right side fits its type, or the left side is a
 -- local or another memory place and the right side is a global place of the same type.
-abbrev pub fetched : Judgement → Ty → Bool
-fetched right ty = right.placed && passes (λ w. is_global w.standing && same_type w.ty ty) right.known
+abbrev pub same_types : Judgement → Judgement → Bool
+same_types left right = passes (λ v. passes (λ w. same_type w.ty v.ty) right.known) left.known
 
-abbrev pub rule_17_at : Judgement → Valued → Bool
-rule_17_at right v =
-    if is_global v.standing then fit right.known v.ty else is_settable v.standing && fetched right v.ty
+abbrev pub puts : Judgement → Judgement → Bool
+puts left right = may_be_global left.place && fit_left left right
+
+abbrev pub gets : Judgement → Judgement → Bool
+gets left right = may_be_other left.place && may_be_global right.place && same_types left right
 
 abbrev pub rule_17 : Judgement → Judgement → Bool
-rule_17 left right = left.placed && passes (rule_17_at right) left.known
+rule_17 left right = puts left right || gets left right
 
 -- Rule 18: in `:-`, the left side is a global place and the right side fits its type.
 abbrev pub rule_18 : Judgement → Judgement → Bool
-rule_18 left right = left.placed && passes (λ v. is_global v.standing && fit right.known v.ty) left.known
+rule_18 left right = puts left right
 
 -- Rule 20: `return` has a value that fits exactly where the result is not void. A function of result int may also
 -- return without one.
@@ -224,7 +230,7 @@ rule_24_value used = are_scalar used
 -- Rule 24, of `?:`: one arm fits the type of the other.
 abbrev pub rule_24_arms : Option Valued → Option Valued → Bool
 rule_24_arms on off =
-    passes (λ a. passes (λ b. fits a.ty a.standing b.ty || fits b.ty b.standing a.ty) off) on
+    passes (λ a. passes (λ b. fits a.ty a.is_null b.ty || fits b.ty b.is_null a.ty) off) on
 
 -- Rule 24, of casts: a cast has no star and an int operand, or ends in `*global` or `*spread` and has an operand of a
 -- pointer type with the same element type.
@@ -235,11 +241,8 @@ rule_24_cast to operand =
     else are_int operand
 
 -- Rule 24, of `for_my_1d`: its name is an int local, and its bound an int.
-abbrev pub is_local_standing : Valued → Bool
-is_local_standing v = is_settable v.standing && opposite (is_memory v.standing)
-
-abbrev pub rule_24_name : Option Valued → Bool
-rule_24_name name = passes (λ v. is_local_standing v && is_int v.ty) name
+abbrev pub rule_24_name : Judgement → Bool
+rule_24_name name = may_be_local name.place && are_int name.known
 
 abbrev pub rule_24_bound : Option Valued → Bool
 rule_24_bound bound = are_int bound

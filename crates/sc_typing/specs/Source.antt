@@ -14,8 +14,6 @@ use Rattle.sc_typing.specs.declared.library.Library.TheVariants as lib
 use Rattle.sc_typing.specs.declared.file.Definition.{Definition}
 use Rattle.sc_typing.specs.declared.file.Meaning.{Meaning}
 use Rattle.sc_typing.specs.declared.file.Meaning.TheVariants as means
-use Rattle.sc_typing.specs.declared.known.Standing.{Standing}
-use Rattle.sc_typing.specs.declared.known.Standing.TheVariants as standing
 use Rattle.sc_typing.specs.Types.{pointer}
 
 -- the objects and the function definitions in text order, and the names and formats of the source
@@ -113,6 +111,3 @@ has_its_indices object taken =
 -- its type with so many indices
 unfoldable pub object_type : Shape → ℕ → Ty
 object_type object taken = if taken == dimensions object then object.ty else pointer object.ty (object_star object)
-
-unfoldable pub object_standing : Shape → ℕ → Standing
-object_standing object taken = if taken == dimensions object then standing.Memory (object_star object) else standing.Value

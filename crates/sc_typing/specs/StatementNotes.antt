@@ -61,7 +61,7 @@ spot_at at line = record { start = at; at = at; line = line }
 -- the name of `for_my_1d`, which is no object with indices
 unfoldable pub note_turns : Source → Scope → (n at line : ℕ) → Noting
 note_turns c s n at line broken =
-    unless (Rules.rule_24_name (named c s.locals 0 n (spot_at at line)).known) at 24 (note_name c s.locals 0 n (spot_at at line) broken)
+    unless (Rules.rule_24_name (named c s.locals 0 n (spot_at at line))) at 24 (note_name c s.locals 0 n (spot_at at line) broken)
 
 -- its bound
 unfoldable pub note_bound : Source → Scope → Expression → Noting

@@ -10,8 +10,10 @@ use Rattle.sc_tree.specs.PlainTypedStmt.{TypedDeclared, TypedStatement, TypedArm
 use Rattle.sc_tree.specs.ViewTypedStmt.{typed_statements_of, typed_arms_of}
 use Rattle.sc_tree.specs.declared.typed.Named.{Named}
 use Rattle.sc_tree.specs.declared.typed.Named.TheVariants as named_as
+use Rattle.sc_typing.specs.declared.places.PlaceKind.{PlaceKind}
 use Rattle.sc_typing.specs.declared.scope.InScope.{InScope}
-use Rattle.sc_typing.specs.Known.{Valued, meets, is_global, Judgement, standing_in, expression_for}
+use Rattle.sc_typing.specs.Known.{Valued, meets, Judgement, standing_in, expression_for}
+use Rattle.sc_typing.specs.Places.{may_be_global}
 use Rattle.sc_typing.specs.Scope.{Scope, innermost, depth, with_declared, left_block}
 use Rattle.sc_typing.specs.Source.{Source}
 use Rattle.sc_typing.specs.Typing.{judge}
@@ -82,12 +84,15 @@ typed_locals c s [] = []
 typed_locals c s (l ∷ more) = typed_local c s l ∷ typed_locals c (after_declared s l) more
 
 -- the right side of a put or a store becomes of the type of the global place; that of a get stays
-abbrev pub sent_expression : Option Valued → Judgement → TypedExpression
-sent_expression None right = expression_for right
-sent_expression (Some v) right = if is_global v.standing then met_expression right v.ty else expression_for right
+abbrev pub sent_as : PlaceKind → Option Valued → Judgement → TypedExpression
+sent_as place None right = expression_for right
+sent_as place (Some v) right = if may_be_global place then met_expression right v.ty else expression_for right
+
+abbrev pub sent_expression : Judgement → Judgement → TypedExpression
+sent_expression left right = sent_as left.place left.known right
 
 unfoldable pub typed_split : Judgement → Judgement → (oneway : Bool) → (at line : ℕ) → TypedStatement
-typed_split l r oneway at line = typed.split (expression_for l) (sent_expression l.known r) oneway at line
+typed_split l r oneway at line = typed.split (expression_for l) (sent_expression l r) oneway at line
 
 abbrev pub local_number : Option InScope → Named
 local_number None = named_as.Local 0

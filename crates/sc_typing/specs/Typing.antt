@@ -14,51 +14,57 @@ use Rattle.sc_typing.specs.declared.file.Meaning.{Meaning}
 use Rattle.sc_typing.specs.declared.file.Meaning.TheVariants as means
 use Rattle.sc_typing.specs.declared.library.Library.TheVariants as lib
 use Rattle.sc_typing.specs.declared.known.Spot.{Spot}
-use Rattle.sc_typing.specs.declared.known.Standing.TheVariants as standing
+use Rattle.sc_typing.specs.declared.places.PlaceKind.TheVariants as place
 use Rattle.sc_typing.specs.declared.scope.InScope.{InScope}
 use Rattle.sc_typing.specs.Types.{int, pointer}
 use Rattle.sc_typing.specs.Known.{Valued, valued, Judgement, judged}
 use Rattle.sc_typing.specs.Scope.{innermost}
-use Rattle.sc_typing.specs.Source.{Source, meaning_of, dimensions, has_its_indices, object_type, object_standing}
+use Rattle.sc_typing.specs.Source.{Source, meaning_of, dimensions, has_its_indices, object_type}
+use Rattle.sc_typing.specs.Places.{object_place}
 use Rattle.sc_typing.specs.Operators.{int_value, number_of, plus_of, prefix_of, deref_of, address_of, cast_of, step_of, set_of, choice_of, Gathered, gather, Linked, begin_chain, join, chain_value, Tailing, begin_tails, index_tail, step_tail, postfix_value}
 use Rattle.sc_typing.specs.Calls.{call_of}
 
 -- An object stands with as many of its indices as it may.
 abbrev pub object_value : (o taken : ℕ) → Shape → Spot → Valued
 object_value o taken object spot =
-    valued (typed.name (named_as.Object o)) (object_type object taken) (object_standing object taken) spot
+    valued (typed.name (named_as.Object o)) (object_type object taken) false spot
 
 abbrev pub object_if : Bool → Valued → Option Valued
 object_if kept v = if kept then Some v else None
 
 abbrev pub object_with : (o taken : ℕ) → Shape → Spot → Judgement
 object_with o taken object spot =
-    record { start = spot.start; placed = true; taken = taken; known = object_if (has_its_indices object taken) (object_value o taken object spot) }
+    record {
+      start = spot.start;
+      place = object_place object taken;
+      taken = taken;
+      known = object_if (has_its_indices object taken) (object_value o taken object spot);
+    }
 
 abbrev pub object_named : (o indices : ℕ) → Option Shape → Spot → Judgement
-object_named o indices None spot = judged spot true None
+object_named o indices None spot = judged spot place.Unknown None
 object_named o indices (Some object) spot = object_with o (min indices (dimensions object)) object spot
 
 abbrev pub local_value : InScope → Spot → Valued
-local_value l spot = valued (typed.name (named_as.Local l.number)) l.ty standing.Local spot
+local_value l spot = valued (typed.name (named_as.Local l.number)) l.ty false spot
 
 -- what a name means that no local has
 abbrev pub meaning_named : Source → (indices : ℕ) → Meaning → Spot → Judgement
 meaning_named c indices (means.Object o) spot = object_named o indices (slice_get c.objects o) spot
-meaning_named c indices _ spot = judged spot true None
+meaning_named c indices _ spot = judged spot place.Unknown None
 
 abbrev pub name_in : Source → (indices n : ℕ) → Spot → Option InScope → Judgement
-name_in c indices n spot (Some l) = judged spot true (Some (local_value l spot))
+name_in c indices n spot (Some l) = judged spot place.Local (Some (local_value l spot))
 name_in c indices n spot None = meaning_named c indices (meaning_of c n) spot
 
 unfoldable pub named : Source → List InScope → (indices n : ℕ) → Spot → Judgement
 named c locals indices n spot = name_in c indices n spot (innermost n locals)
 
 abbrev pub constant : TypedForm → Spot → Judgement
-constant form spot = judged spot false (Some (int_value form spot))
+constant form spot = judged spot place.NoPlace (Some (int_value form spot))
 
 abbrev pub null_constant : Spot → Judgement
-null_constant spot = judged spot false (Some (valued typed.null (pointer int star.Local) standing.Null spot))
+null_constant spot = judged spot place.NoPlace (Some (valued typed.null (pointer int star.Local) true spot))
 
 abbrev pub leading : Tails → ℕ
 leading no_tails = 0
@@ -101,7 +107,7 @@ abbrev pub nothing_gathered : Gathered
 nothing_gathered = record { all = []; whole = true }
 
 abbrev pub gathered_value : (List TypedExpression → TypedForm) → Spot → Gathered → Judgement
-gathered_value form spot g = judged spot false (if g.whole then Some (int_value (form g.all) spot) else None)
+gathered_value form spot g = judged spot place.NoPlace (if g.whole then Some (int_value (form g.all) spot) else None)
 
 abbrev pub both_form : List TypedExpression → TypedForm
 both_form es = typed.both (typed_expressions_of es)
@@ -110,10 +116,10 @@ abbrev pub either_form : List TypedExpression → TypedForm
 either_form es = typed.either (typed_expressions_of es)
 
 abbrev pub chained : Spot → Option Linked → Judgement
-chained spot all = judged spot false (option_map (chain_value spot) all)
+chained spot all = judged spot place.NoPlace (option_map (chain_value spot) all)
 
 abbrev pub tailed : Spot → Tailing → Judgement
-tailed spot all = judged spot all.placed (option_map (postfix_value spot) all.tailed)
+tailed spot all = judged spot all.place (option_map (postfix_value spot) all.tailed)
 
 -- the call of what its name means, with the judged arguments
 abbrev pub call_judged : Source → Option Meaning → Expressions → List Judgement → Spot → Judgement
@@ -130,7 +136,7 @@ abbrev mutual
   judge_kind c locals indices procs spot = constant typed.procs spot
   judge_kind c locals indices size_int spot = constant typed.size_int spot
   judge_kind c locals indices (name n) spot = named c locals indices n spot
-  judge_kind c locals indices (format _) spot = judged spot false None
+  judge_kind c locals indices (format _) spot = judged spot place.NoPlace None
   judge_kind c locals indices (chain first rest) spot = chained spot (judge_links c locals (begin_chain (judge c locals 0 first)) rest)
   judge_kind c locals indices (both all) spot = gathered_value both_form spot (judge_operands c locals nothing_gathered all)
   judge_kind c locals indices (either all) spot = gathered_value either_form spot (judge_operands c locals nothing_gathered all)

@@ -6,7 +6,7 @@ use Rattle.sc_typing.specs.declared.known.Known.{Known}
 use Rattle.sc_typing.specs.declared.known.Judged.{Judged}
 
 abbrev pub seen : Known → Valued
-seen k = record { expression = plain_typed k.e; ty = k.ty; standing = k.standing; spot = k.spot }
+seen k = record { expression = plain_typed k.e; ty = k.ty; is_null = k.is_null; spot = k.spot }
 
 abbrev pub seen_judged : Judged → Judgement
-seen_judged j = record { start = j.start; placed = j.placed; taken = j.taken; known = option_map seen j.known }
+seen_judged j = record { start = j.start; place = j.place; taken = j.taken; known = option_map seen j.known }

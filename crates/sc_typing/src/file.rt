@@ -4,10 +4,9 @@ ghost use Rattle.std.specs.Prelude.{◌≡◌, false, IfOk};
 ghost use Rattle.sc_typing.specs.Source as source;
 ghost use Rattle.sc_typing.specs.ViewSource.{source_of};
 
-use crate::known::Standing;
 use crate::library::{Library, library_of};
-use crate::types::{copy_of, pointer};
-use sc_base::{Bound, Shape, Star, Ty};
+use crate::types::pointer;
+use sc_base::{Bound, Shape, Star, Ty, copy_of_type};
 use sc_tree::{Names, Texts};
 use sqlite_items::Items;
 use std::alloc::{AllocError, Global};
@@ -170,7 +169,8 @@ fn has_bounds(bounds: &[Bound]) -> bool
     }
 }
 
-fn object_star(object: &Shape) -> Star
+/// The last star of a pointer to one of the object's cells.
+pub fn object_star(object: &Shape) -> Star
     ensures { result ≡ source.object_star object.now }
 {
     if !object.spread {
@@ -219,18 +219,7 @@ pub fn object_type(alloc: Global, object: &Shape, taken: usize) -> Result<Ty, Al
     ensures { IfOk result (λ ty. ty ≡ source.object_type object.now taken) }
 {
     if taken == dimensions(object)? {
-        return copy_of(alloc, &object.ty);
+        return copy_of_type(alloc, &object.ty);
     }
     pointer(alloc, &object.ty, object_star(object))
-}
-
-/// What the object is with so many indices.
-#[tactic(auto, unfolding(crate::specs::Source::object_standing))]
-pub fn object_standing(object: &Shape, taken: usize) -> Result<Standing, AllocError>
-    ensures { IfOk result (λ standing. standing ≡ source.object_standing object.now taken) }
-{
-    if taken == dimensions(object)? {
-        return Ok(Standing::Memory(object_star(object)));
-    }
-    Ok(Standing::Value)
 }

@@ -1,6 +1,6 @@
 //! What is known of an expression.
 
-ghost use Rattle.std.specs.Prelude.{◌≡◌, Some, None, Bool, Option, IfOk, if◌then◌else◌};
+ghost use Rattle.std.specs.Prelude.{◌≡◌, None, true, false, IfOk};
 ghost use Rattle.std.specs.Option.{option_map};
 ghost use Rattle.sc_typing.specs.Types as types;
 ghost use Rattle.sc_typing.specs.Known as facts;
@@ -8,8 +8,9 @@ ghost use Rattle.sc_typing.specs.ViewKnown.{seen, seen_judged};
 ghost use Rattle.sc_tree.specs.PlainTyped.{typed_expression, null, convert};
 ghost use Rattle.sc_tree.specs.ViewTyped.{plain_typed, plain_typed_kind};
 
-use crate::types::{copy_of, int, is_pointer, is_wide, same_type, widens};
-use sc_base::{Star, Ty};
+use crate::places::PlaceKind;
+use crate::types::{int, is_pointer, same_type, widens};
+use sc_base::{Ty, copy_of_type};
 use sc_tree::{TypedExpr, TypedKind};
 use sqlite_items::Boxed;
 use std::alloc::{AllocError, Global};
@@ -22,25 +23,13 @@ pub struct Spot {
     pub line: u32,
 }
 
-/// What an expression is to those that use it.
-#[derive(Clone, Copy, Debug, PartialEq, Eq)]
-pub enum Standing {
-    /// A value.
-    Value,
-    /// `NULL` or the number 0, which become null where a pointer is wanted.
-    Null,
-    /// A local.
-    Local,
-    /// A memory place, with the last star of a pointer to it.
-    Memory(Star),
-}
-
 /// An expression that has a type.
 #[derive(Drop)]
 pub struct Known {
     pub e: Boxed<TypedExpr>,
     pub ty: Ty,
-    pub standing: Standing,
+    /// Whether it is `NULL` or the number 0, which become null where a pointer is wanted.
+    pub is_null: bool,
     pub spot: Spot,
 }
 
@@ -50,10 +39,10 @@ pub fn valued(
     kind: TypedKind,
     own: Ty,
     ty: Ty,
-    standing: Standing,
+    is_null: bool,
     spot: Spot,
 ) -> Result<Known, AllocError>
-    ensures { IfOk result (λ made. seen made ≡ record { expression = typed_expression (plain_typed_kind kind) own spot.start spot.at spot.line; ty = ty; standing = standing; spot = spot }) }
+    ensures { IfOk result (λ made. seen made ≡ record { expression = typed_expression (plain_typed_kind kind) own spot.start spot.at spot.line; ty = ty; is_null = is_null; spot = spot }) }
 {
     let e = TypedExpr {
         kind,
@@ -66,7 +55,7 @@ pub fn valued(
     Ok(Known {
         e,
         ty,
-        standing,
+        is_null,
         spot,
     })
 }
@@ -86,79 +75,50 @@ impl Known {
         if same_type(&self.ty, ty) {
             return Ok(self);
         }
-        if is_null(self.standing) {
-            return null_of(alloc, ty, self.standing, self.spot);
+        if self.is_null {
+            return null_of(alloc, ty, self.spot);
         }
         converted(alloc, self.e, ty, self.spot)
     }
 }
 
 /// Null as a value of the type.
-fn null_of(alloc: Global, ty: &Ty, standing: Standing, spot: Spot) -> Result<Known, AllocError>
-    ensures { IfOk result (λ made. seen made ≡ facts.valued null ty.now standing spot) }
+fn null_of(alloc: Global, ty: &Ty, spot: Spot) -> Result<Known, AllocError>
+    ensures { IfOk result (λ made. seen made ≡ facts.valued null ty.now true spot) }
 {
-    let own = copy_of(alloc, ty)?;
-    let ty = copy_of(alloc, ty)?;
-    let made = valued(alloc, TypedKind::Null, own, ty, standing, spot)?;
+    let own = copy_of_type(alloc, ty)?;
+    let ty = copy_of_type(alloc, ty)?;
+    let made = valued(alloc, TypedKind::Null, own, ty, true, spot)?;
     Ok(made)
 }
 
 /// The value converted to the type.
 fn converted(alloc: Global, e: Boxed<TypedExpr>, ty: &Ty, spot: Spot) -> Result<Known, AllocError>
-    ensures { IfOk result (λ made. seen made ≡ facts.valued (convert ty.now (plain_typed e)) ty.now Standing.Value spot) }
+    ensures { IfOk result (λ made. seen made ≡ facts.valued (convert ty.now (plain_typed e)) ty.now false spot) }
 {
-    let to = copy_of(alloc, ty)?;
-    let own = copy_of(alloc, ty)?;
-    let ty = copy_of(alloc, ty)?;
+    let to = copy_of_type(alloc, ty)?;
+    let own = copy_of_type(alloc, ty)?;
+    let ty = copy_of_type(alloc, ty)?;
     let kind = TypedKind::Convert { ty: to, e };
-    let made = valued(alloc, kind, own, ty, Standing::Value, spot)?;
+    let made = valued(alloc, kind, own, ty, false, spot)?;
     Ok(made)
 }
 
-pub fn is_null(standing: Standing) -> bool
-    ensures { result ≡ facts.is_null standing }
+/// Whether a value of the type, which may be `NULL` or the number 0, fits the other type.
+pub fn fits(from: &Ty, is_null: bool, to: &Ty) -> bool
+    ensures { result ≡ facts.fits from.now is_null to.now }
 {
-    matches!(standing, Standing::Null)
-}
-
-pub fn is_memory(standing: Standing) -> bool
-    ensures { result ≡ facts.is_memory standing }
-{
-    matches!(standing, Standing::Memory(_))
-}
-
-/// Whether it is a local or a memory place.
-pub fn is_settable(standing: Standing) -> bool
-    ensures { result ≡ facts.is_settable standing }
-{
-    matches!(standing, Standing::Local | Standing::Memory(_))
-}
-
-/// Whether it is a memory place that a global or spread pointer reaches.
-pub fn is_global(standing: Standing) -> bool
-    ensures { result ≡ facts.is_global standing }
-{
-    match standing {
-        Standing::Memory(star) => is_wide(Some(star)),
-        Standing::Value | Standing::Null | Standing::Local => false,
-    }
-}
-
-/// Whether a value of the type, with this standing, fits the other type.
-pub fn fits(from: &Ty, standing: Standing, to: &Ty) -> bool
-    ensures { result ≡ facts.fits from.now standing to.now }
-{
-    same_type(from, to) || (is_null(standing) && is_pointer(to)) || widens(from, to)
+    same_type(from, to) || (is_null && is_pointer(to)) || widens(from, to)
 }
 
 /// A type to which two values fit, where one fits the other's.
-pub fn common(alloc: Global, left: &Ty, standing: Standing, right: &Ty) -> Result<Ty, AllocError>
-    ensures { IfOk result (λ ty. ty ≡ facts.common left.now standing right.now) }
+pub fn common(alloc: Global, left: &Ty, is_null: bool, right: &Ty) -> Result<Ty, AllocError>
+    ensures { IfOk result (λ ty. ty ≡ facts.common left.now is_null right.now) }
 {
-    if fits(left, standing, right) {
-        return copy_of(alloc, right);
+    if fits(left, is_null, right) {
+        return copy_of_type(alloc, right);
     }
-    copy_of(alloc, left)
+    copy_of_type(alloc, left)
 }
 
 /// What a rule sees of an expression.
@@ -166,31 +126,48 @@ pub fn common(alloc: Global, left: &Ty, standing: Standing, right: &Ty) -> Resul
 pub struct Judged {
     /// Its first token.
     pub start: u32,
-    /// Whether its form is that of a place, whatever types are missing.
-    pub placed: bool,
+    /// Which place it is, as its form and the declarations tell, whatever types are missing.
+    pub place: PlaceKind,
     /// How many of the indices behind it belong to it.
     pub taken: usize,
     /// The expression, where it has a type.
     pub known: Option<Known>,
 }
 
-pub fn judgement(spot: Spot, placed: bool, known: Option<Known>) -> Judged
-    ensures { seen_judged result ≡ facts.judged spot placed (option_map seen known) }
+/// What is judged of an expression that has no indices of its own.
+pub fn judgement(spot: Spot, place: PlaceKind, known: Option<Known>) -> Judged
+    ensures { seen_judged result ≡ facts.judged spot place (option_map seen known) }
 {
     Judged {
         start: spot.start,
-        placed,
+        place,
         taken: 0,
         known,
     }
 }
 
 impl Judged {
-    /// The expression, where the rule on it is kept.
+    /// The value of an operand, where it is no void value and the rule on it is kept.
     pub fn only(self, kept: bool) -> Option<Known>
         ensures { option_map seen result ≡ facts.only kept (seen_judged self).known }
     {
-        if kept { self.known } else { None }
+        match self.known {
+            None => None,
+            Some(known) => {
+                if known.ty.void || !kept {
+                    None
+                } else {
+                    Some(known)
+                }
+            }
+        }
+    }
+
+    /// The value of an operand, where it is no void value.
+    pub fn used(self) -> Option<Known>
+        ensures { option_map seen result ≡ facts.used (seen_judged self) }
+    {
+        self.only(true)
     }
 
     /// What stands for it in the tree.
@@ -221,8 +198,8 @@ pub fn missing(alloc: Global, start: u32) -> Result<Boxed<TypedExpr>, AllocError
 
 /// An int value.
 pub fn int_value(alloc: Global, kind: TypedKind, spot: Spot) -> Result<Known, AllocError>
-    ensures { IfOk result (λ made. seen made ≡ facts.valued (plain_typed_kind kind) types.int Standing.Value spot) }
+    ensures { IfOk result (λ made. seen made ≡ facts.valued (plain_typed_kind kind) types.int false spot) }
 {
-    let made = valued(alloc, kind, int(alloc), int(alloc), Standing::Value, spot)?;
+    let made = valued(alloc, kind, int(alloc), int(alloc), false, spot)?;
     Ok(made)
 }

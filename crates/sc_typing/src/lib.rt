@@ -9,6 +9,7 @@ pub mod known;
 pub mod laws;
 pub mod library;
 pub mod notes;
+pub mod places;
 pub mod rules;
 pub mod scope;
 pub mod types;

@@ -5,7 +5,10 @@ ghost use Rattle.std.specs.Option.{option_map};
 ghost use Rattle.sc_typing.specs.Rules as rules;
 ghost use Rattle.sc_typing.specs.ViewKnown.{seen, seen_judged};
 
-use crate::known::{Judged, Known, fits, is_global, is_memory, is_settable};
+use crate::known::{Judged, Known, fits};
+use crate::places::{
+    PlaceKind, may_be_global, may_be_local, may_be_memory, may_be_other, may_be_set,
+};
 use crate::types::{is_int, is_pointer, is_wide, last_star, same_element, same_type};
 use sc_base::{Binary, Ty};
 
@@ -45,44 +48,45 @@ pub fn fit(known: &Option<Known>, ty: &Ty) -> bool
 {
     match known {
         None => true,
-        Some(v) => fits(&v.ty, v.standing, ty),
+        Some(v) => fits(&v.ty, v.is_null, ty),
     }
 }
 
-pub fn rule_14(e: &Judged) -> bool
-    ensures { result ≡ rules.rule_14 (seen_judged e.now) }
+/// The operand of `&` is a memory place.
+pub fn rule_14(operand: &Judged) -> bool
+    ensures { result ≡ rules.rule_14 (seen_judged operand.now) }
 {
-    if !e.placed {
-        return false;
-    }
-    match &e.known {
+    may_be_memory(operand.place)
+}
+
+/// The right side fits the type of the left one.
+fn fit_left(left: &Judged, right: &Judged) -> bool
+    ensures { result ≡ rules.fit_left (seen_judged left.now) (seen_judged right.now) }
+{
+    match &left.known {
         None => true,
-        Some(v) => is_memory(v.standing),
+        Some(known) => fit(&right.known, &known.ty),
     }
 }
 
+/// The left side of `=` is a local or a memory place, and the right side fits its type.
 pub fn rule_15(left: &Judged, right: &Judged) -> bool
     ensures { result ≡ rules.rule_15 (seen_judged left.now) (seen_judged right.now) }
 {
-    if !left.placed {
-        return false;
-    }
-    match &left.known {
-        None => true,
-        Some(v) => is_settable(v.standing) && fit(&right.known, &v.ty),
-    }
+    may_be_set(left.place) && fit_left(left, right)
 }
 
-/// Of a place that is set by `++`, `--` or a compound assignment, where `moves` says that it may be a pointer.
-pub fn rule_16_place(moves: bool, placed: bool, known: &Option<Known>) -> bool
-    ensures { result ≡ rules.rule_16_place moves placed (option_map seen known.now) }
+/// What `++`, `--` or a compound assignment sets is a place of type int, or of a pointer type where `moves` says that it
+/// may be one.
+pub fn rule_16_place(moves: bool, place: PlaceKind, known: &Option<Known>) -> bool
+    ensures { result ≡ rules.rule_16_place moves place (option_map seen known.now) }
 {
-    if !placed {
+    if !may_be_set(place) {
         return false;
     }
     match known {
         None => true,
-        Some(v) => is_settable(v.standing) && (is_int(&v.ty) || (moves && is_pointer(&v.ty))),
+        Some(known) => is_int(&known.ty) || (moves && is_pointer(&known.ty)),
     }
 }
 
@@ -92,55 +96,50 @@ fn moves(op: Binary) -> bool
     matches!(op, Binary::Add | Binary::Sub)
 }
 
+/// The left side of a compound assignment is a place that it may set, and the right side an int.
 pub fn rule_16(op: Binary, left: &Judged, right: &Judged) -> bool
     ensures { result ≡ rules.rule_16 op (seen_judged left.now) (seen_judged right.now) }
 {
-    rule_16_place(moves(op), left.placed, &left.known) && are_int(&right.known)
+    rule_16_place(moves(op), left.place, &left.known) && are_int(&right.known)
 }
 
-fn fetched(right: &Judged, ty: &Ty) -> bool
-    ensures { result ≡ rules.fetched (seen_judged right.now) ty.now }
+/// The two sides have one type.
+fn same_types(left: &Judged, right: &Judged) -> bool
+    ensures { result ≡ rules.same_types (seen_judged left.now) (seen_judged right.now) }
 {
-    if !right.placed {
-        return false;
-    }
-    match &right.known {
-        None => true,
-        Some(w) => is_global(w.standing) && same_type(&w.ty, ty),
-    }
+    let Some(to) = &left.known else {
+        return true;
+    };
+    let Some(from) = &right.known else {
+        return true;
+    };
+    same_type(&from.ty, &to.ty)
 }
 
-fn rule_17_at(right: &Judged, v: &Known) -> bool
-    ensures { result ≡ rules.rule_17_at (seen_judged right.now) (seen v.now) }
+fn puts(left: &Judged, right: &Judged) -> bool
+    ensures { result ≡ rules.puts (seen_judged left.now) (seen_judged right.now) }
 {
-    if is_global(v.standing) {
-        return fit(&right.known, &v.ty);
-    }
-    is_settable(v.standing) && fetched(right, &v.ty)
+    may_be_global(left.place) && fit_left(left, right)
 }
 
+fn gets(left: &Judged, right: &Judged) -> bool
+    ensures { result ≡ rules.gets (seen_judged left.now) (seen_judged right.now) }
+{
+    may_be_other(left.place) && may_be_global(right.place) && same_types(left, right)
+}
+
+/// `:=` puts a value that fits into a global place, or gets that of a global place into another place of its type.
 pub fn rule_17(left: &Judged, right: &Judged) -> bool
     ensures { result ≡ rules.rule_17 (seen_judged left.now) (seen_judged right.now) }
 {
-    if !left.placed {
-        return false;
-    }
-    match &left.known {
-        None => true,
-        Some(v) => rule_17_at(right, v),
-    }
+    puts(left, right) || gets(left, right)
 }
 
+/// `:-` puts a value that fits into a global place.
 pub fn rule_18(left: &Judged, right: &Judged) -> bool
     ensures { result ≡ rules.rule_18 (seen_judged left.now) (seen_judged right.now) }
 {
-    if !left.placed {
-        return false;
-    }
-    match &left.known {
-        None => true,
-        Some(v) => is_global(v.standing) && fit(&right.known, &v.ty),
-    }
+    puts(left, right)
 }
 
 pub fn rule_20(result_type: &Ty, value: &Option<Judged>) -> bool
@@ -161,7 +160,7 @@ pub fn rule_24_arms(on: &Option<Known>, off: &Option<Known>) -> bool
     let Some(b) = off else {
         return true;
     };
-    fits(&a.ty, a.standing, &b.ty) || fits(&b.ty, b.standing, &a.ty)
+    fits(&a.ty, a.is_null, &b.ty) || fits(&b.ty, b.is_null, &a.ty)
 }
 
 pub fn rule_24_cast(to: &Ty, operand: &Option<Known>) -> bool
@@ -179,11 +178,9 @@ pub fn rule_24_cast(to: &Ty, operand: &Option<Known>) -> bool
     }
 }
 
-pub fn rule_24_name(name: &Option<Known>) -> bool
-    ensures { result ≡ rules.rule_24_name (option_map seen name.now) }
+/// The name of `for_my_1d` is an int local.
+pub fn rule_24_name(name: &Judged) -> bool
+    ensures { result ≡ rules.rule_24_name (seen_judged name.now) }
 {
-    match name {
-        None => true,
-        Some(v) => is_settable(v.standing) && !is_memory(v.standing) && is_int(&v.ty),
-    }
+    may_be_local(name.place) && are_int(&name.known)
 }

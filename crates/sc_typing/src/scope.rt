@@ -5,8 +5,7 @@ ghost use Rattle.std.specs.List.{list_any};
 ghost use Rattle.std.specs.Option.{option_copied};
 ghost use Rattle.sc_typing.specs.Scope as scope;
 
-use crate::types::copy_of;
-use sc_base::Ty;
+use sc_base::{Ty, copy_of_type};
 use std::alloc::{AllocError, Global};
 use std::marker::Model;
 
@@ -73,7 +72,7 @@ impl Scope {
             return Err(AllocError);
         };
         if let Some(name) = name {
-            let ty = copy_of(alloc, ty)?;
+            let ty = copy_of_type(alloc, ty)?;
             self.locals.push(InScope { name, number, ty })?;
         }
         self.count = count;

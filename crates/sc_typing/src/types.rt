@@ -27,16 +27,6 @@ pub fn nothing(alloc: Global) -> Ty
     }
 }
 
-pub fn copy_of(alloc: Global, ty: &Ty) -> Result<Ty, AllocError>
-    ensures { IfOk result (λ copy. copy ≡ ty.now) }
-{
-    let stars = Vec::from_slice(alloc, ty.stars.as_slice())?;
-    Ok(Ty {
-        void: ty.void,
-        stars: Stars::from_vec(stars),
-    })
-}
-
 /// The type of a pointer with this star to a value of the type.
 pub fn pointer(alloc: Global, ty: &Ty, star: Star) -> Result<Ty, AllocError>
     ensures { IfOk result (λ made. made ≡ types.pointer ty.now star) }

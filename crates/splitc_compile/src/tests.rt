@@ -4,6 +4,7 @@ mod calls;
 mod declarations;
 mod expressions;
 mod order;
+mod places;
 mod statements;
 
 use crate::{CompileError, Refusal, accept};
