@@ -10,7 +10,7 @@ use Rattle.effect_order.specs.Order.{Edge}
 use Rattle.effect_order.specs.Order.Edge.{ByBlocking}
 use Rattle.effect_order.specs.Run.{Timed, Analysed, story}
 use Rattle.effect_order.specs.Plan.{Walked, Waited, Counted, CodeFacts}
-use Rattle.effect_order.specs.Greedy.{AllowedIs}
+use Rattle.effect_order.specs.Greedy.{AllowedIs, comes_before}
 use Rattle.effect_order.specs.Sourced.{sooner, Tied}
 use Rattle.effect_order.specs.Prefix.{first_steps}
 use Rattle.effect_order.specs.Smallest.{is_of, is_next, alone, is_allowed, OneByOne, small_run, small_code}
@@ -18,6 +18,7 @@ use Rattle.effect_order.proofs.Members.{each-in, each-self, pairs-map}
 use Rattle.effect_order.proofs.Equal.{value_is, value_self}
 use Rattle.effect_order.proofs.Exchange.{one_memory}
 use Rattle.effect_order.proofs.Prefix as Prefix
+use Rattle.effect_order.proofs.Prefix.{narrower_closed}
 
 size : (own : ℕ → ℕ → Effect) (p n : ℕ) → length (first_steps own p n) ≡ n
 size own p zero = refl
@@ -61,7 +62,7 @@ module _ (nodes : ℕ) (start : Place → Value) (time : Effect → ℕ) (own : 
       item = each-in (λ u. In u all) left x k.left_within i
 
       pre : (n : ℕ) × (filter (is_of x.node) past ≡ first_steps own x.node n)
-      pre = Prefix.own_prefix is_of (λ e. e.number) own is_next all o.steps x.node past k.past_within k.past_distinct k.closed
+      pre = Prefix.own_prefix is_of (λ e. e.number) own is_next all o.steps x.node past k.past_within k.past_distinct (narrower_closed (comes_before alone earlier is_next) is_next all past (λ a b h. or_left _ _ h) k.closed)
 
       many : length (filter (is_of x.node) past) ≡ pre.0
       many = ap length pre.1 ∙ size own x.node pre.0

@@ -80,8 +80,8 @@ pub record Waited {E S : Type 0} (r : Run E S) (c : Code r) : Type 0 where
 
 -- how barriers are passed, by counting; `count` is over the moments below
 pub record Counted {E S : Type 0} (r : Run E S) (c : Code r) : Type 0 where
-  -- a node's m-th passing is after the m-th release
-  pub pass_after : (p t : ℕ) → c.passes p t ≡ true → count (c.passes p) t < count r.releases t
+  -- a node's m-th passing is no earlier than the m-th release
+  pub pass_after : (p t : ℕ) → c.passes p t ≡ true → count (c.passes p) t < count r.releases (suc t)
   -- the m-th release is after every node's m-th arrival
   pub release_after : (p t : ℕ) → p < c.nodes → r.releases t ≡ true → count r.releases t < count (c.arrives p) t
   -- a node goes on only when it has passed
