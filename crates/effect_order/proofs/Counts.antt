@@ -2,7 +2,8 @@
 use Rattle.std.proofs.Common.{◌≡◌, ℕ, zero, suc, ◌+◌, ◌-◌, ◌<◌, ◌≤◌, sym, ap, ◌∙◌, subst, ⊎_elim, arith, Bool, true, false, cond}
 use Rattle.std.proofs.lemmas.Bool.{both_ways, cases_Bool, cases_lt, cases_order, cond-true, cond-false, false_from_ne_true}
 use Rattle.effect_order.specs.Levels.{count}
-use Rattle.effect_order.specs.Run.{Run, Timed}
+use Rattle.effect_order.specs.Run.{Run}
+use Rattle.effect_order.specs.RunFacts.{Timed}
 use Rattle.effect_order.specs.Plan.{Code, Placed, Walked, Counted, ReleaseAfterArrival, ArrivalBeforeRelease}
 use Rattle.effect_order.proofs.Levels.{count_grows, found}
 

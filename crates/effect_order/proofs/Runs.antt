@@ -4,7 +4,8 @@ use Rattle.std.proofs.lemmas.Bool.{cases_Bool, cases_lt, both_ways}
 use Rattle.effect_order.specs.Flow.{Precedes, Link, Delay}
 use Rattle.effect_order.specs.Order.{Later, Edge, Facts, Acyclic}
 use Rattle.effect_order.specs.Order.Edge.{ByBlocking, ByDone, ByWithin, ByRelease, ByConflict}
-use Rattle.effect_order.specs.Run.{Run, RunFacts, OwnStep, Synced, Released, Conflict, blocking, level, story}
+use Rattle.effect_order.specs.Run.{Run, OwnStep, Synced, Released, Conflict, blocking, level, story}
+use Rattle.effect_order.specs.RunFacts.{RunFacts}
 use Rattle.effect_order.specs.Items.{some_conflict}
 use Rattle.effect_order.proofs.Exchange.{items-back}
 use Rattle.effect_order.proofs.Cycles.{acyclic}

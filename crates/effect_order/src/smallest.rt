@@ -4,7 +4,7 @@ ghost use Rattle.std.specs.Prelude.{ℕ, List};
 ghost use Rattle.sc_base.specs.declared.value.Place.{Place};
 ghost use Rattle.sc_base.specs.declared.value.Value.{Value};
 ghost use Rattle.effect_order.specs.Effect.{Effect};
-ghost use Rattle.effect_order.specs.Run.{Timed, Analysed};
+ghost use Rattle.effect_order.specs.RunFacts.{Timed, Analysed};
 ghost use Rattle.effect_order.specs.Plan.{CodeFacts};
 ghost use Rattle.effect_order.specs.Sourced.{Tied};
 ghost use Rattle.effect_order.specs.Smallest.{OneByOne, small_run, small_code, is_next, is_allowed};
