@@ -7,7 +7,7 @@ use Rattle.effect_order.specs.RunFacts.{Timed}
 use Rattle.effect_order.specs.Plan.{Code, Placed, Walked, Counted, ReleaseAfterArrival, ArrivalBeforeRelease}
 use Rattle.effect_order.proofs.Levels.{count_grows, found}
 
-more : (test : ℕ → Bool) (t : ℕ) → test t ≡ true → count test (suc t) ≡ suc (count test t)
+pub more : (test : ℕ → Bool) (t : ℕ) → test t ≡ true → count test (suc t) ≡ suc (count test t)
 more test t h = let e : cond {A = ℕ} (test t) 1 0 ≡ 1 = cond-true (test t) 1 0 h in omega arith
 
 as_many : (test : ℕ → Bool) (t : ℕ) → test t ≡ false → count test (suc t) ≡ count test t
@@ -21,7 +21,7 @@ between test a b t =
     (p.0, p.1, p.2, omega (arith, p.3))
 
 module _ {E S : Type 0} (r : Run E S) (c : Code r) (q : Timed r) (w : Walked r c) (k : Counted r c) where
-  passed : (p t : ℕ) → count (c.passes p) t ≤ count r.releases t
+  pub passed : (p t : ℕ) → count (c.passes p) t ≤ count r.releases t
   passed p zero = omega arith
   passed p (suc t) =
       let up = count_grows r.releases t (suc t) (omega arith) in
