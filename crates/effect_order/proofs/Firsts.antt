@@ -1,7 +1,7 @@
 -- The first member of a list that has a property: in joined lists, by another property, and that there is but one.
 use Rattle.std.proofs.Common.{◌≡◌, ◌⊎◌, List, [], ◌∷◌, ◌++◌, append_assoc, refl, sym, ap, ◌∙◌, subst, inl, inr, ⊎_elim}
 use Rattle.effect_order.specs.Lists.{In, Each}
-use Rattle.effect_order.proofs.Members.{each-in, each-self, each-append, each-right, in-middle}
+use Rattle.effect_order.proofs.Members.{each-in, each-self, each-append, in-middle}
 
 -- x is the first member that has P
 abbrev pub FirstOf : {X : Type 0} → (X → Type 0) → List X → X → Type 0

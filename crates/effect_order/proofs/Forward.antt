@@ -4,7 +4,7 @@ use Rattle.std.proofs.lemmas.Bool.{both_ways, cases_Bool}
 use Rattle.effect_order.specs.Walk.{Walk}
 use Rattle.effect_order.specs.Order.{Edge, Before, Acyclic}
 use Rattle.effect_order.specs.Order.Edge.{ByBlocking, ByDone, ByWithin, ByRelease, ByConflict}
-use Rattle.effect_order.specs.Run.{Run, OwnStep, Synced, Released, story}
+use Rattle.effect_order.specs.Run.{Run, OwnStep, Synced, story}
 use Rattle.effect_order.specs.RunFacts.{Timed}
 use Rattle.effect_order.specs.Directly.{WaitsDirectly, GoesForward}
 use Rattle.effect_order.proofs.Moments.{blocking_true, after, effect_kind, effect_left, done_time}

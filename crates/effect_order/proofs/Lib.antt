@@ -23,3 +23,7 @@ pub mod Forward
 pub mod Firsts
 pub mod Remains
 pub mod Rules
+pub mod Tables
+pub mod Meeting
+pub mod MeetingCode
+pub mod Needed

@@ -1,5 +1,5 @@
 -- What an effect must precede it comes before by a walk of what must come before what: through an arrival and a release.
-use Rattle.std.proofs.Common.{◌≡◌, ◌⊎◌, ℕ, suc, ◌<◌, ◌≤◌, List, [], ◌∷◌, ◌++◌, refl, ◌∙◌, subst, inl, inr, ⊎_elim, arith, Bool, true, false}
+use Rattle.std.proofs.Common.{◌≡◌, ◌⊎◌, suc, ◌<◌, [], ◌∷◌, ◌++◌, refl, ◌∙◌, subst, inl, inr, ⊎_elim, arith, true, false}
 use Rattle.std.proofs.lemmas.Bool.{cases_lt, both_ways, false_from_ne_true}
 use Rattle.effect_order.specs.Levels.{count}
 use Rattle.effect_order.specs.Order.{Before}

@@ -3,14 +3,14 @@ use Rattle.std.proofs.Common.{◌≡◌, ◌↔◌, ◌⊎◌, ℕ, zero, suc, �
 use Rattle.std.proofs.lemmas.Bool.{both_ways, and_from, and_parts, cases_Bool, cases_lt, not-true, not_from_false, false_from_ne_true}
 use Rattle.effect_order.specs.Effect.{Effect}
 use Rattle.effect_order.specs.Items.{some_conflict, items_conflict}
-use Rattle.effect_order.specs.Lists.{In, Each, Pairs, IsDistinct, is_held}
+use Rattle.effect_order.specs.Lists.{In, Each, Pairs, is_held}
 use Rattle.effect_order.specs.Greedy.{grow, pick_by, behind, then_rest, may_take, ordered}
 use Rattle.effect_order.specs.Rules.{Sorted, IsNext, StepOf, FirstRule, SecondRule, EffectFree, ThirdRule, Next, IsByRules, steps_below, listed, Took, Follows}
 use Rattle.effect_order.specs.Rules.Next.{ByFirst, BySecond, ByThird}
 use Rattle.effect_order.proofs.Exchange.{items-back}
-use Rattle.effect_order.proofs.Members.{each-in, each-self, each-map, each-left, each-right, pairs_left, pairs_right, in-split, in-middle, in-either, held_by, held_from, not_held}
+use Rattle.effect_order.proofs.Members.{each-in, each-self, each-map, pairs_left, pairs_right, in-split, in-middle, in-either, held_by, not_held}
 use Rattle.effect_order.proofs.Prefix.{in_filter, from_filter}
-use Rattle.effect_order.proofs.Firsts.{FirstOf, NoneOf, in-front, in-back, alike, first-in, first_is_one, first_or_none, first-not_none, first-left, first-right, first-cases, first-map}
+use Rattle.effect_order.proofs.Firsts.{FirstOf, NoneOf, in-front, in-back, alike, first-in, first_is_one, first_or_none, first-left, first-right, first-cases, first-map}
 use Rattle.effect_order.proofs.Remains.{Without, without-none, covered, remains, stands, taken}
 
 no_effects : (us vs : List Effect) → us ≡ [] → some_conflict us vs ≡ false

@@ -1,10 +1,10 @@
 -- What a run supplies gives the facts from which there is no cycle.
-use Rattle.std.proofs.Common.{◌≡◌, ◌≢◌, ◌⊎◌, ◌<◌, ◌≤◌, refl, ◌∙◌, subst, inl, inr, ⊎_elim, arith, le_of_lt, le_of_eq, Bool, true, false}
+use Rattle.std.proofs.Common.{◌≡◌, ◌≢◌, ◌⊎◌, ◌<◌, ◌≤◌, inl, inr, ⊎_elim, arith, true}
 use Rattle.std.proofs.lemmas.Bool.{cases_Bool, cases_lt, both_ways}
 use Rattle.effect_order.specs.Flow.{Precedes, Link, Delay}
 use Rattle.effect_order.specs.Order.{Later, Edge, Facts, Acyclic}
 use Rattle.effect_order.specs.Order.Edge.{ByBlocking, ByDone, ByWithin, ByRelease, ByConflict}
-use Rattle.effect_order.specs.Run.{Run, OwnStep, Synced, Released, Conflict, blocking, level, story}
+use Rattle.effect_order.specs.Run.{Run, OwnStep, Synced, Released, Conflict, level, story}
 use Rattle.effect_order.specs.RunFacts.{RunFacts}
 use Rattle.effect_order.proofs.Exchange.{items-back}
 use Rattle.effect_order.proofs.Cycles.{acyclic}

@@ -1,4 +1,5 @@
--- A run of code that waits directly after each access: a blocking access is over before its node's next own step begins.
+-- A run of code that waits directly after each access: a blocking access is over before its node's next own step
+-- begins. After Shasha and Snir (1988), where no two accesses of a node overlap.
 use Rattle.std.specs.Prelude.{◌≡◌, ◌<◌, ◌≤◌, Bool, true, false}
 use Rattle.effect_order.specs.Order.{Edge}
 use Rattle.effect_order.specs.Run.{Run, IsBlocking, Step, story}
@@ -15,7 +16,8 @@ pub record WaitsDirectly {E S : Type 0} (r : Run E S) (is_end : E → Bool) : Ty
   -- an end is the last own step of its node
   pub end_last : (e f : E) → Step r e → Step r f → is_end e ≡ true → r.node e ≡ r.node f → r.step e ≤ r.step f → e ≡ f
   -- no release happens after an end
-  pub no_release : (e m : E) → r.Member e → r.Member m → is_end e ≡ true → r.is_release m ≡ true → r.time e < r.time m → ⊥
+  pub no_release : (e m : E) → r.Member e → r.Member m → is_end e ≡ true → r.is_release m ≡ true →
+      r.time e < r.time m → ⊥
 
 -- what must come before an item that is no end was sooner in the run
 abbrev pub GoesForward : {E S : Type 0} → Run E S → (E → Bool) → Type 0

@@ -13,5 +13,7 @@ pub mod Walk
 pub mod MustPrecede
 pub mod Directly
 pub mod Rules
+pub mod Meeting
+pub mod Needed
 pub mod Sourced
 pub mod Smallest

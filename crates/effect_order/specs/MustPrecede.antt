@@ -1,7 +1,7 @@
--- Which effect of a run must precede which: the access of the first is complete in the source before that of the second
--- begins. After the program order of Shasha and Snir (1988), with the blocking and split accesses, the stores, the syncs
--- and the barriers of "Introduction to Split-C" (Culler and others, 1995).
-use Rattle.std.specs.Prelude.{◌≡◌, ◌⊎◌, ℕ, ◌<◌, Bool, true}
+-- Which effect of a run must precede which: the access of the first is complete in the source before that of the
+-- second begins. After the program order of Shasha and Snir (1988), with the blocking and split accesses, the stores,
+-- the syncs and the barriers of "Introduction to Split-C" (Culler and others, 1995).
+use Rattle.std.specs.Prelude.{◌≡◌, ◌⊎◌, ◌<◌, true}
 use Rattle.effect_order.specs.Run.{Run, Sync, IsBlocking, IsSplit, IsStore, Copies, Conflict}
 use Rattle.effect_order.specs.Plan.{Code, ArrivesFor, AwaitsStores}
 use Rattle.effect_order.specs.Walk.{HasNoCycle}

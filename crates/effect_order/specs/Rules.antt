@@ -76,7 +76,8 @@ pub record Took {X : Type 0}
 
 -- What has to hold of the test by which an order grows over the listed items, so that it grows by the rules.
 pub record Follows {X : Type 0}
-    (does : X → List Effect) (earlier : X → X → Bool) (allowed follows : List X → X → Bool) (s : Sorted X) : Type 0 where
+    (does : X → List Effect) (earlier : X → X → Bool) (allowed follows : List X → X → Bool)
+    (s : Sorted X) : Type 0 where
   -- no item stands twice
   pub distinct : IsDistinct (listed s)
   -- an own step that is no effect does nothing to cells
@@ -88,8 +89,9 @@ pub record Follows {X : Type 0}
   -- nothing is earlier than itself
   pub not_itself : (x : X) → earlier x x ≡ false
   -- an own step passes where it is its node's next one and is allowed
-  pub step : (past : List X) (p : ℕ) (x : X) → Took does earlier follows (listed s) past → p < s.nodes → In x (s.own p) →
-      s.is_effect x ≡ false → (In x past → ⊥) → (follows past x ≡ true) ↔ (IsNext past (s.own p) x × (allowed past x ≡ true))
+  pub step : (past : List X) (p : ℕ) (x : X) → Took does earlier follows (listed s) past → p < s.nodes →
+      In x (s.own p) → s.is_effect x ≡ false → (In x past → ⊥) →
+      (follows past x ≡ true) ↔ (IsNext past (s.own p) x × (allowed past x ≡ true))
   -- a release passes where it is the next one and is allowed
   pub release : (past : List X) (x : X) → Took does earlier follows (listed s) past → In x s.releases →
       (In x past → ⊥) → (follows past x ≡ true) ↔ (IsNext past s.releases x × (allowed past x ≡ true))

@@ -1,5 +1,5 @@
--- What a run has to supply: how its items lie in time, where its conflicts stand in the code, and what the walks and the
--- waits of its nodes keep.
+-- What a run has to supply: how its items lie in time, where its conflicts stand in the code, and what the walks and
+-- the waits of its nodes keep.
 use Rattle.std.specs.Prelude.{◌≡◌, ◌≢◌, ◌⊎◌, ℕ, ◌<◌, ◌≤◌, [], true, false}
 use Rattle.effect_order.specs.Flow.{Path, Clear, OneExplicit, Delay}
 use Rattle.effect_order.specs.Run.{Run, level, Sync, Copies, Conflict, Step}

@@ -23,7 +23,7 @@ pub use run_order::{
     Running, Storied, code_has_no_cycle, effects_have_no_cycle, no_cycle, run_gives_facts,
     waiting_directly_has_no_cycle,
 };
-pub use smallest::one_by_one_meets_premises;
+pub use smallest::{meeting_meets_premises, one_by_one_meets_premises};
 pub use source_order::{
     code_is_sourced, conflicting_order_keeps_values, each_after_what_it_needs,
     legal_by_construction, memory_stays, own_steps_first, reads_show_last_write, run_is_sourced,
