@@ -2,11 +2,12 @@
 use Rattle.std.proofs.Common.{◌≡◌, ℕ, zero, suc, ◌+◌, ◌-◌, ◌<◌, ◌≤◌, sym, ap, ◌∙◌, subst, ⊎_elim, arith, Bool, true, false, cond}
 use Rattle.std.proofs.lemmas.Bool.{both_ways, cases_Bool, cases_lt, cases_order, cond-true, cond-false, false_from_ne_true}
 use Rattle.effect_order.specs.Levels.{count}
-use Rattle.effect_order.specs.Run.{Run, Timed}
+use Rattle.effect_order.specs.Run.{Run}
+use Rattle.effect_order.specs.RunFacts.{Timed}
 use Rattle.effect_order.specs.Plan.{Code, Placed, Walked, Counted, ReleaseAfterArrival, ArrivalBeforeRelease}
 use Rattle.effect_order.proofs.Levels.{count_grows, found}
 
-more : (test : ℕ → Bool) (t : ℕ) → test t ≡ true → count test (suc t) ≡ suc (count test t)
+pub more : (test : ℕ → Bool) (t : ℕ) → test t ≡ true → count test (suc t) ≡ suc (count test t)
 more test t h = let e : cond {A = ℕ} (test t) 1 0 ≡ 1 = cond-true (test t) 1 0 h in omega arith
 
 as_many : (test : ℕ → Bool) (t : ℕ) → test t ≡ false → count test (suc t) ≡ count test t
@@ -20,7 +21,7 @@ between test a b t =
     (p.0, p.1, p.2, omega (arith, p.3))
 
 module _ {E S : Type 0} (r : Run E S) (c : Code r) (q : Timed r) (w : Walked r c) (k : Counted r c) where
-  passed : (p t : ℕ) → count (c.passes p) t ≤ count r.releases t
+  pub passed : (p t : ℕ) → count (c.passes p) t ≤ count r.releases t
   passed p zero = omega arith
   passed p (suc t) =
       let up = count_grows r.releases t (suc t) (omega arith) in

@@ -14,6 +14,16 @@ pub mod Prefix
 pub mod Levels
 pub mod Counts
 pub mod Waits
+pub mod Moments
 pub mod Runs
 pub mod Supplied
 pub mod Whole
+pub mod Precedence
+pub mod Forward
+pub mod Firsts
+pub mod Remains
+pub mod Rules
+pub mod Tables
+pub mod Meeting
+pub mod MeetingCode
+pub mod Needed

@@ -54,6 +54,10 @@ in-split [] x i = absurd i
 in-split (y ∷ ys) x (inl q) = ([], ys, ap (λ u. u ∷ ys) (sym q))
 in-split (y ∷ ys) x (inr i) = let p = in-split ys x i in (y ∷ p.0, p.1, ap (λ u. y ∷ u) p.2)
 
+pub in-middle : {X : Type 0} (us : List X) (x : X) (vs : List X) → In x (us ++ x ∷ vs)
+in-middle [] x vs = inl refl
+in-middle (u ∷ us) x vs = inr (in-middle us x vs)
+
 pub in-either : {X : Type 0} (us vs : List X) (a : X) → In a (us ++ vs) → In a us ⊎ In a vs
 in-either [] vs a i = inr i
 in-either (u ∷ us) vs a (inl q) = inl (inl q)

@@ -8,9 +8,10 @@ use Rattle.effect_order.specs.Items.{effects_of, memory_of}
 use Rattle.effect_order.specs.Lists.{In, Each}
 use Rattle.effect_order.specs.Order.{Edge}
 use Rattle.effect_order.specs.Order.Edge.{ByBlocking}
-use Rattle.effect_order.specs.Run.{Timed, Analysed, story}
+use Rattle.effect_order.specs.Run.{Copies, story}
+use Rattle.effect_order.specs.RunFacts.{Timed, Analysed}
 use Rattle.effect_order.specs.Plan.{Walked, Waited, Counted, CodeFacts}
-use Rattle.effect_order.specs.Greedy.{AllowedIs}
+use Rattle.effect_order.specs.Greedy.{AllowedIs, comes_before}
 use Rattle.effect_order.specs.Sourced.{sooner, Tied}
 use Rattle.effect_order.specs.Prefix.{first_steps}
 use Rattle.effect_order.specs.Smallest.{is_of, is_next, alone, is_allowed, OneByOne, small_run, small_code}
@@ -18,6 +19,7 @@ use Rattle.effect_order.proofs.Members.{each-in, each-self, pairs-map}
 use Rattle.effect_order.proofs.Equal.{value_is, value_self}
 use Rattle.effect_order.proofs.Exchange.{one_memory}
 use Rattle.effect_order.proofs.Prefix as Prefix
+use Rattle.effect_order.proofs.Prefix.{narrower_closed}
 
 size : (own : ℕ → ℕ → Effect) (p n : ℕ) → length (first_steps own p n) ≡ n
 size own p zero = refl
@@ -30,6 +32,9 @@ effects_alone (e ∷ past) = ap (λ u. e ∷ u) (effects_alone past)
 -- items of one effect leave what the effects leave
 held_is : (start : Place → Value) (p : Place) (past : List Effect) → memory_of alone start past p ≡ held start p past
 held_is start p past = one_memory alone start p past ∙ ap (held start p) (effects_alone past)
+
+one_effect : (e a : Effect) → e ∷ [] ≡ a ∷ [] → e ≡ a
+one_effect e a h = cc
 
 never : {A : Type 0} → true ≡ false → A
 never e = absurd (true≢false e)
@@ -61,7 +66,7 @@ module _ (nodes : ℕ) (start : Place → Value) (time : Effect → ℕ) (own : 
       item = each-in (λ u. In u all) left x k.left_within i
 
       pre : (n : ℕ) × (filter (is_of x.node) past ≡ first_steps own x.node n)
-      pre = Prefix.own_prefix is_of (λ e. e.number) own is_next all o.steps x.node past k.past_within k.past_distinct k.closed
+      pre = Prefix.own_prefix is_of (λ e. e.number) own is_next all o.steps x.node past k.past_within k.past_distinct (narrower_closed (comes_before alone earlier is_next) is_next all past (λ a b h. or_left _ _ h) k.closed)
 
       many : length (filter (is_of x.node) past) ≡ pre.0
       many = ap length pre.1 ∙ size own x.node pre.0
@@ -124,6 +129,12 @@ module _ (nodes : ℕ) (start : Place → Value) (time : Effect → ℕ) (own : 
   same_number e f i j n k =
       sym (o.steps.is_it f.node e i (eq-eqb _ _ n)) ∙ ap (own f.node) k ∙ o.steps.is_it f.node f j (mine f)
 
+  -- no access both reads and writes
+  one_kind : (e f : Effect) → In e all → In f all → Copies (small_run time all) e f → time e < time f
+  one_kind e f i j h =
+      let same : h.2 ≡ h.3 = sym (one_effect e h.2 h.4) ∙ same_number e f i j h.0 h.1 ∙ one_effect f h.3 h.5 in
+      absurd (both_ways _ (ap (λ (u : Effect). u.wrote) (sym same) ∙ h.6) h.7)
+
   pub timed : Timed (small_run time all)
   timed = record {
     release_moment = λ m i h. h;
@@ -138,6 +149,7 @@ module _ (nodes : ℕ) (start : Place → Value) (time : Effect → ℕ) (own : 
     one_point = λ e f i j a b n t. refl;
     sync_alone = λ s f i j h a n t. never h.0;
     synced = λ e s i j a b h n t. never h.0;
+    copied = one_kind;
   }
 
   pub analysed : Analysed (small_run time all)
@@ -185,7 +197,8 @@ module _ (nodes : ℕ) (start : Place → Value) (time : Effect → ℕ) (own : 
 
       waited : Waited (small_run time all) (small_code nodes time own all)
       waited = record {
-        demand_barrier = λ a t h. tt;
+        demand_barrier = λ a t b h. tt;
+        one_way = λ a h. never (sym h);
         demand_delay = λ a b h. tt;
         enters_first = λ e i p t. begun e i p.0 t;
         waits = λ e f i p q a b n t u h w. waits e f i p.0 q.0 n t u;
@@ -201,5 +214,6 @@ module _ (nodes : ℕ) (start : Place → Value) (time : Effect → ℕ) (own : 
         placed_issues = λ e p. refl;
         arrival_moment = λ a p h. never (sym h);
         moment_arrival = λ p t h. never (sym h);
+        stored = λ m e i h a p b t. never (sym h);
         alone = λ m e i h p. never (sym h);
       }

@@ -8,7 +8,7 @@ use Rattle.effect_order.specs.Items.{memory_of, Shows, items_conflict}
 use Rattle.effect_order.specs.Lists.{In, Each, Pairs, IsDistinct, is_held}
 use Rattle.effect_order.specs.Walk.{HasNoCycle}
 use Rattle.effect_order.specs.Greedy.{grow, pick_by, behind, then_rest, IsAllowed, may_take, ordered, comes_before, AllowedIs, Reached, Among, IsSourced, Orderable}
-use Rattle.effect_order.proofs.Members.{each-in, each-left, each-right, each-without, each-map, each-self, pairs-map, pairs_left, pairs_right, pairs_without, in-split, in-either, in-cases, held_by, not_held, free, narrower}
+use Rattle.effect_order.proofs.Members.{each-in, each-left, each-right, each-without, each-map, each-self, pairs-map, pairs_left, pairs_right, pairs_without, in-split, in-either, in-cases, in-middle, held_by, not_held, free, narrower}
 use Rattle.effect_order.proofs.Taken.{greedy}
 use Rattle.effect_order.proofs.Moved.{Keeps, apart, moved}
 use Rattle.effect_order.proofs.Sourced.{greedy_sourced}
@@ -22,7 +22,7 @@ same_test false false f g = absurd (both_ways false refl (g refl))
 
 module _ {X : Type 0} (does : X → List Effect) (m : Place → Value) (earlier needs : X → X → Bool) (allowed : List X → X → Bool) (all : List X) (is : AllowedIs does m earlier needs allowed all) where
   abbrev Kept : List X → List X → Type 0
-  Kept past left = Reached does m earlier needs all past left
+  Kept past left = Reached does m earlier needs allowed all past left
 
   by_conflict : (a x : X) → (items_conflict does a x && earlier a x) ≡ true → comes_before does earlier needs a x ≡ true
   by_conflict a x h = or_right _ _ h
@@ -45,6 +45,14 @@ module _ {X : Type 0} (does : X → List Effect) (m : Place → Value) (earlier 
   moved_first past us vs x k h =
       let f = each-left _ us (x ∷ vs) (free (comes_before does earlier needs) x (us ++ x ∷ vs) h) in
       moved does (memory_of does m past) us x vs (apart does (comes_before does earlier needs) x us (pairs_left (Keeps does (comes_before does earlier needs)) us x vs k.order) f) k.shows
+
+  -- what has to come before such an item was taken
+  came_before : (past left : List X) (x : X) → Kept past left → is_held (comes_before does earlier needs) x left ≡ false → Each (λ a. comes_before does earlier needs a x ≡ true → In a past) all
+  came_before past left x k h = each-map _ _ all now k.cover
+    where
+      now : (a : X) → In a past ⊎ In a left → comes_before does earlier needs a x ≡ true → In a past
+      now a (inl q) n = q
+      now a (inr q) n = absurd (not_held (comes_before does earlier needs) x left a h q n)
 
   -- what such an item needs was taken
   needed : (past left : List X) (x : X) → Kept past left → is_held (comes_before does earlier needs) x left ≡ false → Each (λ a. needs a x ≡ true → In a past) all
@@ -73,7 +81,8 @@ module _ {X : Type 0} (does : X → List Effect) (m : Place → Value) (earlier 
     shows = (moved_first past us vs x k h).1;
     past_within = ((each-right _ us (x ∷ vs) k.left_within).0, k.past_within);
     left_within = each-without _ us x vs k.left_within;
-    closed = (needed past (us ++ x ∷ vs) x k h, k.closed);
+    closed = (came_before past (us ++ x ∷ vs) x k h, k.closed);
+    were_allowed = ((and_parts _ _ (may_be_taken past (us ++ x ∷ vs) x k (in-middle us x vs) h)).0, k.were_allowed);
   }
     where
       next : (a : X) → In a past ⊎ In a (us ++ x ∷ vs) → In a (x ∷ past) ⊎ In a (us ++ vs)
@@ -107,6 +116,7 @@ module _ {X : Type 0} (does : X → List Effect) (m : Place → Value) (earlier 
         past_distinct = tt;
         left_within = each-self _ all (λ x i. i);
         closed = tt;
+        were_allowed = tt;
       }
 
       same : ordered does earlier allowed all ≡ greedy (comes_before does earlier needs) (length all) all

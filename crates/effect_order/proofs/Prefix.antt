@@ -4,7 +4,7 @@ use Rattle.std.proofs.lemmas.Bool.{both_ways, cases_lt}
 use Rattle.effect_order.specs.Lists.{In, Each, IsDistinct}
 use Rattle.effect_order.specs.Greedy.{Closed}
 use Rattle.effect_order.specs.Prefix.{OwnSteps, first_steps}
-use Rattle.effect_order.proofs.Members.{each-in}
+use Rattle.effect_order.proofs.Members.{each-in, each-map}
 
 pub in_filter : {X : Type 0} (test : X → Bool) (past : List X) (x : X) → In x past → test x ≡ true → In x (filter test past)
 in_filter test [] x i h = i
@@ -24,6 +24,10 @@ from_filter test (y ∷ past) x i = by (test y) i (λ j. from_filter test past x
     by true (inl q) f = inl q
     by true (inr j) f = inr (f j)
     by false j f = inr (f j)
+
+pub narrower_closed : {X : Type 0} (before less : X → X → Bool) (all past : List X) → ((a b : X) → less a b ≡ true → before a b ≡ true) → Closed before all past → Closed less all past
+narrower_closed before less all [] f c = tt
+narrower_closed before less all (x ∷ past) f c = (each-map _ _ all (λ a g h. g (f a x h)) c.0, narrower_closed before less all past f c.1)
 
 pub reaches : {X : Type 0} (own : ℕ → ℕ → X) (p n k : ℕ) → k < n → In (own p k) (first_steps own p n)
 reaches own p zero k t = omega arith

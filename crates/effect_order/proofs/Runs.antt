@@ -1,116 +1,28 @@
 -- What a run supplies gives the facts from which there is no cycle.
-use Rattle.std.proofs.Common.{◌≡◌, ◌≢◌, ◌⊎◌, ◌<◌, ◌≤◌, refl, ◌∙◌, subst, inl, inr, ⊎_elim, arith, le_of_lt, le_of_eq, Bool, true, false}
+use Rattle.std.proofs.Common.{◌≡◌, ◌≢◌, ◌⊎◌, ◌<◌, ◌≤◌, inl, inr, ⊎_elim, arith, true}
 use Rattle.std.proofs.lemmas.Bool.{cases_Bool, cases_lt, both_ways}
 use Rattle.effect_order.specs.Flow.{Precedes, Link, Delay}
 use Rattle.effect_order.specs.Order.{Later, Edge, Facts, Acyclic}
 use Rattle.effect_order.specs.Order.Edge.{ByBlocking, ByDone, ByWithin, ByRelease, ByConflict}
-use Rattle.effect_order.specs.Run.{Run, RunFacts, OwnStep, Synced, Released, Conflict, blocking, level, story}
-use Rattle.effect_order.specs.Items.{some_conflict}
+use Rattle.effect_order.specs.Run.{Run, OwnStep, Synced, Released, Conflict, level, story}
+use Rattle.effect_order.specs.RunFacts.{RunFacts}
 use Rattle.effect_order.proofs.Exchange.{items-back}
 use Rattle.effect_order.proofs.Cycles.{acyclic}
+use Rattle.effect_order.proofs.Moments.{After, after, blocking_true, blocking_of, effect_left, effect_right, sync_times, done_time, done_node, done_step, done_on}
 use Rattle.effect_order.proofs.Levels.{level_grows, to_release, from_release}
 
-blocking_true : (a b : Bool) → blocking a b ≡ true → (a ≡ true) × (b ≡ true)
-blocking_true true b e = (refl, e)
-blocking_true false b e = absurd (cc)
-
-blocking_of : (a b : Bool) → a ≡ true → blocking a b ≡ b
-blocking_of true b e = refl
-blocking_of false b e = absurd (cc)
-
 module _ {E S : Type 0} (r : Run E S) (k : RunFacts r) where
-  -- an effect is no release
-  effect_kind : (e : E) → r.Member e → r.is_effect e ≡ true → r.is_release e ≡ false
-  effect_kind e m h = ⊎_elim (λ b. absurd (both_ways _ (k.timed.release_quiet e m b) h)) (λ b. b) (cases_Bool (r.is_release e))
-
   time_level : (e f : E) → r.time e < r.time f → level r (r.time e) ≤ level r (r.time f)
   time_level e f t = level_grows r.releases _ _ (omega arith)
 
-  -- only effects conflict
-  effect_right : (e f : E) → r.Member e → r.Member f → Conflict r e f → r.is_effect f ≡ true
-  effect_right e f me mf c =
-      ⊎_elim
-      (λ b. b)
-      (λ b. absurd (both_ways _ refl (subst (λ u. some_conflict (r.does e) u ≡ true) (k.timed.does_nothing f mf b) c)))
-      (cases_Bool (r.is_effect f))
-
-  effect_left : (e f : E) → r.Member e → r.Member f → Conflict r e f → r.is_effect e ≡ true
-  effect_left e f me mf c = effect_right f e mf me (items-back r.does e f c)
-
-  -- what a blocking effect is followed by on its node
-  pub record After (e f : E) : Type 0 where
-    effect : r.is_effect e ≡ true
-    blocks : r.flow.is_blocking (r.point e) ≡ true
-    own : r.is_release e ≡ false
-    own_to : r.is_release f ≡ false
-    node : r.node e ≡ r.node f
-    step : r.step e < r.step f
-
-  after : (e f : E) → r.Member e → r.Member f → Later (story r) e f → After e f
-  after e f me mf l =
-      let b = blocking_true _ _ l.0 in
-      let own = effect_kind e me b.0 in
-      record {
-        effect = b.0;
-        blocks = b.1;
-        own = own;
-        own_to = ⊎_elim (λ q. absurd (k.timed.release_apart e f me mf own q l.1)) (λ q. q) (cases_Bool (r.is_release f));
-        node = l.1;
-        step = l.2;
-      }
-
-  levels : (e f : E) → r.Member e → r.Member f → After e f → (level r (r.time e) ≤ level r (r.issue e)) × (level r (r.issue e) ≤ level r (r.issue f)) × (level r (r.issue f) ≤ level r (r.time f)) × (level r (r.issue e) ≤ level r (r.time e))
+  levels : (e f : E) → r.Member e → r.Member f → After r k.timed e f → (level r (r.time e) ≤ level r (r.issue e)) × (level r (r.issue e) ≤ level r (r.issue f)) × (level r (r.issue f) ≤ level r (r.time f)) × (level r (r.issue e) ≤ level r (r.time e))
   levels e f me mf a =
       let before = k.timed.in_order e f (me, a.own) (mf, a.own_to) a.node a.step in
       (k.kept.in_its_level e me a.effect a.blocks, level_grows r.releases _ _ (omega arith), level_grows r.releases _ _ (k.timed.issued f mf), level_grows r.releases _ _ (k.timed.issued e me))
 
-  -- the sync between the two
-  sync_times : (e f : E) → r.Member e → r.Member f → (q : Synced r e f) → (r.time e < r.time q.sync) × (r.issue q.sync ≡ r.time q.sync) × (r.issue q.sync ≤ r.issue f) × (r.issue f ≤ r.time f)
-  sync_times e f me mf q =
-      let one = k.timed.synced e q.sync me q.member q.effect q.splits q.is_sync q.node q.step in
-      let last : r.issue q.sync ≤ r.issue f =
-      ⊎_elim
-      (λ (t : r.step q.sync < r.step f). le_of_lt (k.timed.in_order q.sync f (q.member, q.is_sync.1) (mf, q.no_release_to) q.node_to t))
-      (λ t. le_of_eq (k.timed.one_issue q.sync f (q.member, q.is_sync.1) (mf, q.no_release_to) q.node_to (omega (arith, q.step_to))))
-      (cases_lt (r.step q.sync) (r.step f)) in
-      (one, k.timed.at_once q.sync q.member q.is_sync.0, last, k.timed.issued f mf)
-
-  own_time : (e f : E) → r.Member e → r.Member f → OwnStep r e f → r.time e < r.time f
-  own_time e f me mf q = omega (arith, k.timed.at_once e me q.0, k.timed.in_order e f (me, q.1) (mf, q.2) q.3 q.4, k.timed.issued f mf)
-
-  done_time : (e f : E) → r.Member e → r.Member f → OwnStep r e f ⊎ Synced r e f → r.time e < r.time f
-  done_time e f me mf (inl q) = own_time e f me mf q
-  done_time e f me mf (inr q) = let t = sync_times e f me mf q in omega arith
-
-  done_node : (e f : E) → OwnStep r e f ⊎ Synced r e f → r.node e ≡ r.node f
-  done_node e f (inl q) = q.3
-  done_node e f (inr q) = q.node ∙ q.node_to
-
-  done_step : (e f : E) → OwnStep r e f ⊎ Synced r e f → r.step e < r.step f
-  done_step e f (inl q) = q.4
-  done_step e f (inr q) = omega (arith, q.step, q.step_to)
-
-  own_item : (f g : E) → r.Member f → r.Member g → r.is_release f ≡ false → r.node f ≡ r.node g → r.is_release g ≡ false
-  own_item f g mf mg d n = ⊎_elim (λ q. absurd (k.timed.release_apart f g mf mg d q n)) (λ q. q) (cases_Bool (r.is_release g))
-
-  done_on : (e f g : E) → r.Member e → r.Member f → r.Member g → OwnStep r e f ⊎ Synced r e f → r.node f ≡ r.node g → r.step f ≤ r.step g → OwnStep r e g ⊎ Synced r e g
-  done_on e f g me mf mg (inl q) n t = inl (q.0, q.1, own_item f g mf mg q.2 n, q.3 ∙ n, omega arith)
-  done_on e f g me mf mg (inr q) n t = inr (record {
-    effect = q.effect;
-    splits = q.splits;
-    sync = q.sync;
-    member = q.member;
-    is_sync = q.is_sync;
-    node = q.node;
-    step = q.step;
-    node_to = q.node_to ∙ n;
-    step_to = omega (arith, q.step_to);
-    no_release_to = own_item f g mf mg q.no_release_to n;
-  })
-
   never_falls : (e f : E) → r.Member e → r.Member f → Edge (story r) e f → level r (r.time e) ≤ level r (r.time f)
-  never_falls e f me mf (ByBlocking l) = let t = levels e f me mf (after e f me mf l) in omega arith
-  never_falls e f me mf (ByDone d) = time_level e f (done_time e f me mf d)
+  never_falls e f me mf (ByBlocking l) = let t = levels e f me mf (after r k.timed e f me mf l) in omega arith
+  never_falls e f me mf (ByDone d) = time_level e f (done_time r k.timed e f me mf d)
   never_falls e f me mf (ByWithin w) = time_level e f w.4
   never_falls e f me mf (ByRelease q) = time_level e f q.1
   never_falls e f me mf (ByConflict c t) = time_level e f t
@@ -119,12 +31,12 @@ module _ {E S : Type 0} (r : Run E S) (k : RunFacts r) where
   rises e f me mf q = ⊎_elim (λ a. from_release r.releases (r.time e) (r.time f) (k.timed.release_moment e me a) q.1) (λ a. to_release r.releases (r.time e) (r.time f) (k.timed.release_moment f mf a) q.1) q.0
 
   -- within one level both were issued in it
-  one_level : (e f : E) → r.Member e → r.Member f → (a : After e f) → level r (r.time e) ≡ level r (r.time f) → level r (r.issue e) ≡ level r (r.issue f)
+  one_level : (e f : E) → r.Member e → r.Member f → (a : After r k.timed e f) → level r (r.time e) ≡ level r (r.time f) → level r (r.issue e) ≡ level r (r.issue f)
   one_level e f me mf a v = let t = levels e f me mf a in omega arith
 
   clear_blocking : (e f : E) → r.Member e → r.Member f → Later (story r) e f → r.is_effect f ≡ true → level r (r.time e) ≡ level r (r.time f) → Precedes r.flow (r.point e) (r.point f)
   clear_blocking e f me mf l b v =
-      let a = after e f me mf l in
+      let a = after r k.timed e f me mf l in
       inl (a.blocks, k.kept.clear e f me mf b (inl a.effect) a.node a.step (one_level e f me mf a v))
 
   -- not within one step of the sync itself, where f is an effect
@@ -135,7 +47,7 @@ module _ {E S : Type 0} (r : Run E S) (k : RunFacts r) where
   clear_done : (e f : E) → r.Member e → r.Member f → OwnStep r e f ⊎ Synced r e f → r.is_effect e ≡ true → r.is_effect f ≡ true → level r (r.time e) ≡ level r (r.time f) → Precedes r.flow (r.point e) (r.point f)
   clear_done e f me mf (inl q) be bf v = absurd (both_ways _ q.0 be)
   clear_done e f me mf (inr q) be bf v =
-      let t = sync_times e f me mf q in
+      let t = sync_times r k.timed e f me mf q in
       let x = level_grows r.releases (r.time e) (r.issue q.sync) (omega arith) in
       let y = level_grows r.releases (r.issue q.sync) (r.issue f) t.2 in
       let z = level_grows r.releases (r.issue f) (r.time f) t.3 in
@@ -154,15 +66,15 @@ module _ {E S : Type 0} (r : Run E S) (k : RunFacts r) where
     where
       at_issue : r.flow.is_blocking (r.point e) ≡ true → r.flow.is_blocking (r.point f) ≡ true → level r (r.issue e) ≡ level r (r.issue f)
       at_issue a b =
-          let p = k.kept.in_its_level e me (effect_left e f me mf c) a in
-          let q = k.kept.in_its_level f mf (effect_right e f me mf c) b in
+          let p = k.kept.in_its_level e me (effect_left r k.timed e f me mf c) a in
+          let q = k.kept.in_its_level f mf (effect_right r k.timed e f me mf c) b in
           let x = level_grows r.releases _ _ (k.timed.issued e me) in
           let y = level_grows r.releases _ _ (k.timed.issued f mf) in
           omega arith
 
   waited : (e f : E) → r.Member e → r.Member f → Later (story r) e f → r.is_effect f ≡ true → level r (r.time e) ≡ level r (r.time f) → Delay r.flow (r.point e) (r.point f) → r.time e < r.time f
   waited e f me mf l b v d =
-      let a = after e f me mf l in
+      let a = after r k.timed e f me mf l in
       let w = k.kept.waited e f me mf a.effect b a.node a.step (one_level e f me mf a v) d in
       omega (arith, k.timed.issued f mf)
 
@@ -170,16 +82,16 @@ module _ {E S : Type 0} (r : Run E S) (k : RunFacts r) where
   facts = record {
     never_falls = never_falls;
     rises = rises;
-    done_node = λ e f me mf d. done_node e f d;
-    done_step = λ e f me mf d. done_step e f d;
-    done_on = done_on;
-    done_time = done_time;
+    done_node = λ e f me mf d. done_node r k.timed e f d;
+    done_step = λ e f me mf d. done_step r k.timed e f d;
+    done_on = done_on r k.timed;
+    done_time = done_time r k.timed;
     within_node = λ e f me mf w. w.2;
     within_step = λ e f me mf w. w.3;
     within_time = λ e f me mf w. w.4;
     within_effect = λ e f me mf w. w.0;
-    conflict_left = effect_left;
-    conflict_right = effect_right;
+    conflict_left = effect_left r k.timed;
+    conflict_right = effect_right r k.timed;
     conflict_back = λ e f c. items-back r.does e f c;
     blocking_effect = λ e me b. (blocking_true _ _ b).0;
     blocking_site = λ e me b. blocking_of _ _ b;

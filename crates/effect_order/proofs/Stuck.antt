@@ -1,29 +1,19 @@
 -- Where each of finitely many items has one before it among them, there is a cycle.
-use Rattle.std.proofs.Common.{◌⊎◌, List, [], ◌∷◌, ◌++◌, refl, subst, inl, inr, ⊎_elim}
-use Rattle.effect_order.specs.Walk.{Walk, HasNoCycle}
+use Rattle.std.proofs.Common.{◌⊎◌, List, [], ◌∷◌, refl, subst, inl, inr, ⊎_elim}
+use Rattle.effect_order.specs.Walk.{HasNoCycle}
 use Rattle.effect_order.specs.Lists.{In}
-use Rattle.effect_order.proofs.Walks.{walk-append}
+use Rattle.effect_order.proofs.Walks.{Steps, no_cycle-steps}
 
 -- a step, or two steps through x
 abbrev Around : {E : Type 0} → (E → E → Type 0) → E → E → E → Type 0
 Around R x a b = R a b ⊎ (R a x × R x b)
 
-step : {E : Type 0} (R : E → E → Type 0) (x a b : E) → Around R x a b → (w : E) × (ws : List E) × Walk R a (w ∷ ws) b
+step : {E : Type 0} (R : E → E → Type 0) (x a b : E) → Around R x a b → Steps R a b
 step R x a b (inl r) = (b, [], (r, refl))
 step R x a b (inr r) = (x, b ∷ [], (r.0, (r.1, refl)))
 
-steps : {E : Type 0} (R : E → E → Type 0) (x : E) (zs : List E) (a b : E) → Walk (Around R x) a zs b → (ws : List E) × Walk R a ws b
-steps R x [] a b w = ([], w)
-steps R x (z ∷ zs) a b w =
-    let one = step R x a z w.0 in
-    let rest = steps R x zs z b w.1 in
-    ((one.0 ∷ one.1) ++ rest.0, walk-append R (one.0 ∷ one.1) rest.0 a z b one.2 rest.1)
-
 around_has_none : {E : Type 0} (R : E → E → Type 0) (x : E) → HasNoCycle R → HasNoCycle (Around R x)
-around_has_none R x none a z zs w =
-    let one = step R x a z w.0 in
-    let rest = steps R x zs z a w.1 in
-    none a one.0 (one.1 ++ rest.0) (walk-append R (one.0 ∷ one.1) rest.0 a z a one.2 rest.1)
+around_has_none R x = no_cycle-steps (Around R x) R (λ a b r. step R x a b r)
 
 -- each member of the list has a member of it before it
 abbrev pub IsStuck : {E : Type 0} → (E → E → Type 0) → List E → Type 0

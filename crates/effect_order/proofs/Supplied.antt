@@ -2,7 +2,8 @@
 use Rattle.std.proofs.Common.{◌≡◌, ⊎_elim, true}
 use Rattle.std.proofs.lemmas.Bool.{cases_Bool, both_ways}
 use Rattle.effect_order.specs.Order.{Acyclic}
-use Rattle.effect_order.specs.Run.{Run, Timed, Analysed, Kept, RunFacts, story}
+use Rattle.effect_order.specs.Run.{Run, story}
+use Rattle.effect_order.specs.RunFacts.{Timed, Analysed, Kept, RunFacts}
 use Rattle.effect_order.specs.Plan.{Code, CodeFacts, Placed}
 use Rattle.effect_order.proofs.Runs.{acyclic_run}
 use Rattle.effect_order.proofs.Waits as Waits

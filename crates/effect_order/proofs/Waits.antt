@@ -1,9 +1,10 @@
 -- A walk from a site to a point that demands it passes a first demand, where the code waits.
 use Rattle.std.proofs.Common.{◌≡◌, ℕ, zero, suc, ◌+◌, ◌-◌, ◌<◌, ◌≤◌, List, [], ◌∷◌, ◌++◌, sym, ap, ◌∙◌, subst, ⊎_elim, arith, true, false}
-use Rattle.std.proofs.lemmas.Bool.{cases_Bool, cases_lt, both_ways}
+use Rattle.std.proofs.lemmas.Bool.{cases_Bool, cases_lt, both_ways, false_from_ne_true}
 use Rattle.effect_order.specs.Flow.{PathBy, LeadsBy, Path, Clear, Delay}
-use Rattle.effect_order.specs.Run.{Run, Timed, level}
-use Rattle.effect_order.specs.Plan.{First, Code, FirstAt, GoesOneWay, Placed, CodeFacts}
+use Rattle.effect_order.specs.Run.{Run, level}
+use Rattle.effect_order.specs.RunFacts.{Timed}
+use Rattle.effect_order.specs.Plan.{First, Code, FirstAt, Placed, CodeFacts}
 use Rattle.effect_order.proofs.Levels as Levels
 use Rattle.effect_order.proofs.Counts as Counts
 
@@ -37,7 +38,7 @@ first_demand Goes Demand w i k t goes d none = none_first Goes Demand w i k goes
 
 module _ {E S : Type 0} (r : Run E S) (c : Code r) (q : Timed r) (k : CodeFacts r c) where
   -- a blocking effect is over when its node begins a later point that demands its site, if no barrier lies between or the site is not one-way
-  over_at : (e f : E) → Placed r c e → Placed r c f → r.is_effect e ≡ true → r.flow.is_blocking (r.point e) ≡ true → r.node e ≡ r.node f → r.step e < r.step f → c.Demand (r.point e) (r.point f) → ((i : ℕ) → c.at e < i → i ≤ c.at f → FirstAt c (r.point e) (c.way (r.node f) i) → GoesOneWay c (r.point e) → ⊥) → r.time e < r.issue f
+  over_at : (e f : E) → Placed r c e → Placed r c f → r.is_effect e ≡ true → r.flow.is_blocking (r.point e) ≡ true → r.node e ≡ r.node f → r.step e < r.step f → c.Demand (r.point e) (r.point f) → ((i : ℕ) → c.at e < i → i ≤ c.at f → FirstAt c (r.point e) (c.way (r.node f) i) → c.is_one_way (r.point e) ≡ true → ⊥) → r.time e < r.issue f
   over_at e f me mf be ke n t d two_way =
       ⊎_elim
       (λ x. x)
@@ -62,7 +63,7 @@ module _ {E S : Type 0} (r : Run E S) (c : Code r) (q : Timed r) (k : CodeFacts 
       late : r.issue f ≤ r.time e → (j : ℕ) → c.at e < j → j ≤ c.at f → FirstAt c (c.way (r.node f) (c.at e)) (c.way (r.node f) j) → ⊥
       late x j a b h =
           let first = subst (λ u. FirstAt c u (c.way (r.node f) j)) here h in
-          omega (arith, k.waited.waits e f j me mf be ke n a b first (two_way j a b first), k.waited.enters_first f j mf b)
+          omega (arith, k.waited.waits e f j me mf be ke n a b first (false_from_ne_true _ (two_way j a b first)), k.waited.enters_first f j mf b)
 
   step_by_at : (e x : E) → Placed r c e → Placed r c x → r.node e ≡ r.node x → c.at e < c.at x → r.step e < r.step x
   step_by_at e x me mx n t =
@@ -98,7 +99,7 @@ module _ {E S : Type 0} (r : Run E S) (c : Code r) (q : Timed r) (k : CodeFacts 
 
   pub waited : (e f : E) → Placed r c e → Placed r c f → r.is_effect e ≡ true → r.flow.is_blocking (r.point e) ≡ true → r.is_effect f ≡ true → r.node e ≡ r.node f → r.step e < r.step f → level r (r.issue e) ≡ level r (r.issue f) → Delay r.flow (r.point e) (r.point f) → r.time e < r.issue f
   waited e f me mf be ke bf n t v d =
-      over_at e f me mf be ke n t (k.waited.demand_delay _ _ d) (λ i a b h w. no_barrier_upto i a b (w.1 _ h))
+      over_at e f me mf be ke n t (k.waited.demand_delay _ _ d) (λ i a b h w. no_barrier_upto i a b ((k.waited.one_way _ w).1 _ h))
     where
       no_barrier_upto : (i : ℕ) → c.at e < i → i ≤ c.at f → r.flow.is_barrier (c.way (r.node f) i) ≡ true → ⊥
       no_barrier_upto i a b h =
@@ -114,9 +115,9 @@ module _ {E S : Type 0} (r : Run E S) (c : Code r) (q : Timed r) (k : CodeFacts 
   before_release m e mm km me be ke i t =
       let x = Counts.gathers r c q k.walked k.counted m e mm km me be i in
       let barrier = k.walked.arrival_barrier x.0 x.1 x.2 in
-      omega (arith, x.5, over_at e x.0 me x.1 be ke (sym x.3) x.4 (k.waited.demand_barrier _ _ barrier) (λ j a b h w. not_one_way w))
+      omega (arith, x.5, over_at e x.0 me x.1 be ke (sym x.3) x.4 (k.waited.demand_barrier _ _ ke barrier) (λ j a b h w. not_one_way w))
     where
-      not_one_way : GoesOneWay c (r.point e) → ⊥
+      not_one_way : c.is_one_way (r.point e) ≡ true → ⊥
       not_one_way w = omega (arith, k.waited.covered m e mm km me be w i)
 
   pub in_its_level : (e : E) → Placed r c e → r.is_effect e ≡ true → r.flow.is_blocking (r.point e) ≡ true → level r (r.time e) ≤ level r (r.issue e)

@@ -63,3 +63,21 @@ walk-map R Q turn (z ∷ zs) x y p = (turn x z p.0, walk-map R Q turn zs z y p.1
 
 pub no_cycle-map : {E : Type 0} (R Q : E → E → Type 0) → ((e f : E) → R e f → Q e f) → HasNoCycle Q → HasNoCycle R
 no_cycle-map R Q turn none x z zs w = none x z zs (walk-map R Q turn (z ∷ zs) x x w)
+
+-- one step or more
+abbrev pub Steps : {E : Type 0} → (E → E → Type 0) → E → E → Type 0
+Steps {E} R x y = (z : E) × (zs : List E) × Walk R x (z ∷ zs) y
+
+-- each step of a walk becomes one step or more of another relation
+pub walk-steps : {E : Type 0} (R Q : E → E → Type 0) → ((e f : E) → R e f → Steps Q e f) → (zs : List E) (x y : E) → Walk R x zs y → (ws : List E) × Walk Q x ws y
+walk-steps R Q turn [] x y p = ([], p)
+walk-steps R Q turn (z ∷ zs) x y p =
+    let one = turn x z p.0 in
+    let rest = walk-steps R Q turn zs z y p.1 in
+    ((one.0 ∷ one.1) ++ rest.0, walk-append Q (one.0 ∷ one.1) rest.0 x z y one.2 rest.1)
+
+pub no_cycle-steps : {E : Type 0} (R Q : E → E → Type 0) → ((e f : E) → R e f → Steps Q e f) → HasNoCycle Q → HasNoCycle R
+no_cycle-steps R Q turn none x z zs w =
+    let one = turn x z w.0 in
+    let rest = walk-steps R Q turn zs z x w.1 in
+    none x one.0 (one.1 ++ rest.0) (walk-append Q (one.0 ∷ one.1) rest.0 x z x one.2 rest.1)

@@ -6,7 +6,8 @@ use Rattle.sc_base.specs.declared.value.Value.{Value}
 use Rattle.effect_order.specs.Items.{items_conflict}
 use Rattle.effect_order.specs.Order.{Before}
 use Rattle.effect_order.specs.Order.Edge.{ByConflict}
-use Rattle.effect_order.specs.Run.{Run, RunFacts, story}
+use Rattle.effect_order.specs.Run.{Run, story}
+use Rattle.effect_order.specs.RunFacts.{RunFacts}
 use Rattle.effect_order.specs.Greedy.{comes_before, Among, Orderable, IsSourced}
 use Rattle.effect_order.specs.Sourced.{sooner, source_order, Tied}
 use Rattle.effect_order.proofs.Members.{pairs-map}

@@ -10,7 +10,7 @@ pub record Flow (S : Type 0) : Type 1 where
   pub is_sync : S → Bool  -- the node waits there for its split accesses
   pub is_blocking : S → Bool  -- a site whose access is over, in the source, before the node's next step
   pub is_split : S → Bool  -- a site whose access is over, in the source, at the node's next sync
-  pub is_write : S → Bool  -- a blocking site that writes one cell
+  pub may_go_one_way : S → Bool  -- a blocking site whose access the plan may send one-way: it writes one cell
   pub OwnConflict : S → S → Type 0  -- one node may reach one cell from both, and one of them writes
   -- two different nodes may reach one cell, each from one of them, and one of them writes
   pub Across : S → S → Type 0

@@ -80,9 +80,15 @@ abbrev pub Closed : {X : Type 0} → (X → X → Bool) → List X → List X �
 Closed needs all [] = Unit {0}
 Closed needs all (x ∷ past) = Each (λ a. needs a x ≡ true → In a past) all × Closed needs all past
 
+-- each of those taken, the newest first, was allowed after those before it
+abbrev pub WereAllowed : {X : Type 0} → (List X → X → Bool) → List X → Type 0
+WereAllowed allowed [] = Unit {0}
+WereAllowed allowed (x ∷ past) = (allowed past x ≡ true) × WereAllowed allowed past
+
 -- what holds of those taken and those left while the order grows
 pub record Reached {X : Type 0}
-    (does : X → List Effect) (start : Place → Value) (earlier needs : X → X → Bool) (all past left : List X) : Type 0 where
+    (does : X → List Effect) (start : Place → Value) (earlier needs : X → X → Bool) (allowed : List X → X → Bool)
+    (all past left : List X) : Type 0 where
   -- each item was taken or is left
   pub cover : Each (λ a. In a past ⊎ In a left) all
   -- those taken are items
@@ -95,8 +101,10 @@ pub record Reached {X : Type 0}
   pub past_distinct : IsDistinct past
   -- none is left twice
   pub distinct : IsDistinct left
-  -- each was taken after those that it needs
-  pub closed : Closed needs all past
+  -- each was taken after those that have to come before it
+  pub closed : Closed (comes_before does earlier needs) all past
+  -- each was taken when it was allowed
+  pub were_allowed : WereAllowed allowed past
   -- conflicting items are left in their order
   pub order : Pairs (λ a x. items_conflict does a x ≡ true → comes_before does earlier needs a x ≡ true) left
   -- taken in that order they show their values
@@ -107,7 +115,7 @@ pub record Reached {X : Type 0}
 abbrev pub AllowedIs : {X : Type 0} →
     (X → List Effect) → (Place → Value) → (X → X → Bool) → (X → X → Bool) → (List X → X → Bool) → List X → Type 0
 AllowedIs {X} does start earlier needs allowed all =
-    (past left : List X) (x : X) → Reached does start earlier needs all past left → In x left →
+    (past left : List X) (x : X) → Reached does start earlier needs allowed all past left → In x left →
     (allowed past x ≡ true) ↔
     (Each (λ a. needs a x ≡ true → In a past) all × IsShown (memory_of does start past) (does x))
 

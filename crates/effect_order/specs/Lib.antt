@@ -8,6 +8,12 @@ pub mod Order
 pub mod Plan
 pub mod Prefix
 pub mod Run
+pub mod RunFacts
 pub mod Walk
+pub mod MustPrecede
+pub mod Directly
+pub mod Rules
+pub mod Meeting
+pub mod Needed
 pub mod Sourced
 pub mod Smallest

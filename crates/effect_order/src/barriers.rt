@@ -3,7 +3,8 @@
 
 ghost use Rattle.std.specs.Prelude.{◌≡◌, ℕ, ◌<◌, ◌≤◌, Bool, true};
 ghost use Rattle.effect_order.specs.Levels.{level_at};
-ghost use Rattle.effect_order.specs.Run.{Run, Timed, Kept};
+ghost use Rattle.effect_order.specs.Run.{Run};
+ghost use Rattle.effect_order.specs.RunFacts.{Timed, Kept};
 ghost use Rattle.effect_order.specs.Plan.{Code, Walked, Counted, CodeFacts, ReleaseAfterArrival, ArrivalBeforeRelease};
 
 /// A run of compiled code, with the walks of its nodes, the waits of the code and the passing of barriers.

@@ -19,10 +19,13 @@ pub use effects::{
     conflict_is_mutual, items_leave_what_effects_leave, same_place_is_equality,
     same_value_is_equality,
 };
-pub use run_order::{Running, Storied, code_has_no_cycle, no_cycle, run_gives_facts};
-pub use smallest::one_by_one_meets_premises;
+pub use run_order::{
+    Running, Storied, code_has_no_cycle, effects_have_no_cycle, no_cycle, run_gives_facts,
+    waiting_directly_has_no_cycle,
+};
+pub use smallest::{meeting_meets_premises, one_by_one_meets_premises};
 pub use source_order::{
     code_is_sourced, conflicting_order_keeps_values, each_after_what_it_needs,
     legal_by_construction, memory_stays, own_steps_first, reads_show_last_write, run_is_sourced,
-    takes_everything,
+    source_order_is_by_rules, takes_everything,
 };

@@ -1,15 +1,16 @@
 //! Laws on the source order: a run's items taken one by one, the first that is allowed and before which no conflicting
 //! earlier item is left.
 
-ghost use Rattle.std.specs.Prelude.{◌≡◌, ℕ, List, [], Bool, true, filter};
+ghost use Rattle.std.specs.Prelude.{◌≡◌, ◌↔◌, ℕ, List, [], Bool, true, filter};
 ghost use Rattle.sc_base.specs.declared.value.Place.{Place};
 ghost use Rattle.sc_base.specs.declared.value.Value.{Value};
 ghost use Rattle.effect_order.specs.Effect.{Effect};
 ghost use Rattle.effect_order.specs.Lists.{In, Each, Pairs, IsDistinct};
 ghost use Rattle.effect_order.specs.Items.{Shows, memory_after, items_conflict};
 ghost use Rattle.effect_order.specs.Greedy.{ordered, comes_before, IsAllowed, Reorder, Lawful, Closed, Orderable, IsSourced};
+ghost use Rattle.effect_order.specs.Rules.{Sorted, Follows, IsByRules, listed};
 ghost use Rattle.effect_order.specs.Prefix.{OwnSteps, first_steps};
-ghost use Rattle.effect_order.specs.Run.{Timed, Analysed, RunFacts};
+ghost use Rattle.effect_order.specs.RunFacts.{Timed, Analysed, RunFacts};
 ghost use Rattle.effect_order.specs.Plan.{CodeFacts};
 ghost use Rattle.effect_order.specs.Sourced.{sooner, source_order, Tied};
 
@@ -55,6 +56,15 @@ pub fn memory_stays<X>()
 pub fn legal_by_construction<X>()
     ensures { (does : X → List Effect) (earlier : X → X → Bool) (allowed : List X → X → Bool) (all : List X) →
         IsAllowed allowed [] (ordered does earlier allowed all) }
+{}
+
+/// The source order over own steps by node, releases by number and effects in the order of the run is exactly the order by
+/// the three rules: the next own step of the least node for which it is allowed, else the next release, else the first
+/// effect that is allowed and before which no conflicting one is left.
+pub fn source_order_is_by_rules<X>()
+    ensures { (does : X → List Effect) (earlier : X → X → Bool) (allowed follows : List X → X → Bool) (sorted : Sorted X) →
+        Follows does earlier allowed follows sorted → (out : List X) →
+        IsByRules does allowed sorted [] out ↔ (out ≡ ordered does earlier follows (listed sorted)) }
 {}
 
 /// Where each item was taken after what it needs, a node's own steps among those taken are its first ones.
