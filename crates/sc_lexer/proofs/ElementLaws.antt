@@ -30,7 +30,8 @@ pub record IsGood (defined : Definitions) (bytes : List ℕ) (e : Element) : Typ
   pub takeable : IsTakeable defined (take e.size bytes) e.found
 
 abbrev pub IsWithin : List ℕ → Refused → Type 0
-IsWithin bytes (refused.BadByte offset) = offset ≤ length bytes
+IsWithin bytes refused.BadByte = Unit {0}
+IsWithin bytes (refused.BadToken offset) = offset ≤ length bytes
 IsWithin bytes refused.OpenComment = Unit {0}
 IsWithin bytes refused.WideNumber = Unit {0}
 IsWithin bytes refused.BadDirective = Unit {0}
@@ -103,7 +104,7 @@ numeral_at-fair defined bytes e =
 
 abbrev IsEnd : ℕ → List ℕ → Result ℕ Refused → Type 0
 IsEnd place bytes (Ok n) = (place < n) × (n ≤ place + length bytes)
-IsEnd place bytes (Err r) = (offset : ℕ) × (r ≡ refused.BadByte offset) × (offset ≤ place + length bytes)
+IsEnd place bytes (Err r) = (offset : ℕ) × (r ≡ refused.BadToken offset) × (offset ≤ place + length bytes)
 
 IsEnd-more : (place b : ℕ) (bs : List ℕ) (r : Result ℕ Refused) → IsEnd (place + 1) bs r → IsEnd place (b ∷ bs) r
 IsEnd-more place b bs (Ok n) h = (omega (arith, h.0), omega (arith, h.1))
@@ -203,7 +204,7 @@ find-passes p (x ∷ xs) m e = first-or p x (find p xs) m (p x) refl e (find-pas
 
 marked-fair : (defined : Definitions) (bytes : List ℕ) → 0 < length bytes → (o : Option Mark) → mark_of bytes ≡ o → IsFair defined bytes (marked o)
 unfolding mark_of
-marked-fair defined bytes h None e = omega arith
+marked-fair defined bytes h None e = tt
 marked-fair defined bytes h (Some m) e = record {
   positive = mark_text-positive m;
   within = starts_with-length bytes (mark_text m) (find-passes (λ x. starts_with nat_eq bytes (mark_text x)) marks m e);
@@ -281,7 +282,7 @@ unfolding solid_at mark_at
 solid_at-fair fresh defined bytes h =
     let P : Result Element Refused → Type 0 = IsFair defined bytes in
     cond_both (begins_with (λ b. b == 35) bytes) _ _ P
-    (λ hash. cond_both fresh _ _ P (λ _. directive_at-fair defined bytes _ (line-cut bytes (hash-begins bytes hash))) (λ _. omega arith))
+    (λ hash. cond_both fresh _ _ P (λ _. directive_at-fair defined bytes _ (line-cut bytes (hash-begins bytes hash))) (λ _. tt))
     (λ _. cond_both (begins_with is_name_start bytes) _ _ P
     (λ name. name_at-good defined bytes name)
     (λ _. cond_both (begins_with is_ascii_digit bytes) _ _ P

@@ -1,9 +1,13 @@
-pub mod FormatLaws
 pub mod DefinedLaws
+pub mod DistinctLaws
 pub mod ElementLaws
+pub mod FormatLaws
 pub mod LongestLaws
 pub mod NumberLaws
-pub mod StepLaws
+pub mod NumberedLaws
+pub mod PieceLaws
+pub mod PlaceLaws
 pub mod Reasons
+pub mod StepLaws
 pub mod TextLaws
 pub mod Walks

@@ -44,7 +44,7 @@ format_at bytes = quoted (format_end false 1 (drop 1 bytes))
 
 abbrev pub marked : Option Mark → Result Element Refused
 marked (Some mark) = Ok (record { size = length (mark_text mark); found = found.Mark mark })
-marked None = Err (BadByte 0)
+marked None = Err BadByte
 
 unfoldable pub mark_at : List ℕ → Result Element Refused
 mark_at bytes = marked (mark_of bytes)
@@ -86,7 +86,7 @@ directive_at defined line =
 -- before it on its line
 unfoldable pub solid_at : Bool → Definitions → List ℕ → Result Element Refused
 solid_at fresh defined bytes =
-    if begins_with (λ b. b == 35) bytes then (if fresh then directive_at defined (take (prefix_len is_not_newline bytes) bytes) else Err (BadByte 0))
+    if begins_with (λ b. b == 35) bytes then (if fresh then directive_at defined (take (prefix_len is_not_newline bytes) bytes) else Err BadByte)
     else (if begins_with is_name_start bytes then Ok (name_at bytes)
     else (if begins_with is_ascii_digit bytes then numeral_at bytes
     else (if begins_with (λ b. b == 34) bytes then format_at bytes
