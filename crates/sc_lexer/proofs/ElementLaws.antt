@@ -49,11 +49,11 @@ named-takeable : (defined : Definitions) (piece : List ℕ) (o : Option Word) �
 named-takeable defined piece None = tt
 named-takeable defined piece (Some w) = tt
 
-prefix-positive : (p : ℕ → Bool) (bytes : List ℕ) → begins_with p bytes ≡ true → 0 < prefix_len p bytes
+pub prefix-positive : (p : ℕ → Bool) (bytes : List ℕ) → begins_with p bytes ≡ true → 0 < prefix_len p bytes
 prefix-positive p [] e = absurd (false≢true e)
 prefix-positive p (b ∷ bs) e = rw e (omega arith)
 
-begins-name : (bytes : List ℕ) → begins_with is_name_start bytes ≡ true → begins_with is_name_byte bytes ≡ true
+pub begins-name : (bytes : List ℕ) → begins_with is_name_start bytes ≡ true → begins_with is_name_byte bytes ≡ true
 begins-name [] e = e
 begins-name (b ∷ bs) e = name_byte-start b e
 
@@ -194,11 +194,11 @@ starts_with-length [] (n ∷ ns) e = absurd (false≢true e)
 starts_with-length (x ∷ xs) (n ∷ ns) e =
     let shorter : length ns ≤ length xs = starts_with-length xs ns (and_parts _ _ e).1 in omega arith
 
-find-passes : (p : Mark → Bool) (ms : List Mark) (m : Mark) → find p ms ≡ Some m → p m ≡ true
+pub find-passes : {X : Type 0} (p : X → Bool) (ms : List X) (m : X) → find p ms ≡ Some m → p m ≡ true
 find-passes p [] m e = cc
-find-passes p (x ∷ xs) m e = first-or p x (find p xs) m (p x) refl e (find-passes p xs m)
+find-passes {X} p (x ∷ xs) m e = first-or p x (find p xs) m (p x) refl e (find-passes p xs m)
   where
-    first-or : (p : Mark → Bool) (x : Mark) (o : Option Mark) (m : Mark) (b : Bool) → b ≡ p x → cond b (Some x) o ≡ Some m → (o ≡ Some m → p m ≡ true) → p m ≡ true
+    first-or : (p : X → Bool) (x : X) (o : Option X) (m : X) (b : Bool) → b ≡ p x → cond b (Some x) o ≡ Some m → (o ≡ Some m → p m ≡ true) → p m ≡ true
     first-or p x o m true e f g = let same : x ≡ m = cc in ap p (sym same) ∙ sym e
     first-or p x o m false e f g = g f
 

@@ -166,7 +166,7 @@ format_end-format b bs end quote e =
     let h : Spells 1 bs end = format_end-after false 1 bs end e in
     let size : end ≡ suc (suc h.n) = omega (arith, h.ends) in
     let whole : take end (b ∷ bs) ≡ 34 ∷ (take h.n bs ++ 34 ∷ []) =
-      ap (λ n. take n (b ∷ bs)) size ∙ ap (λ x. x ∷ take (suc h.n) bs) (eqb-true b 34 quote) ∙ ap (λ l. 34 ∷ l) (take-quote h.n bs h.quote) in
+    ap (λ n. take n (b ∷ bs)) size ∙ ap (λ x. x ∷ take (suc h.n) bs) (eqb-true b 34 quote) ∙ ap (λ l. 34 ∷ l) (take-quote h.n bs h.quote) in
     format-of (take end (b ∷ bs)) (take h.n bs) whole h.writable h.again h.printable
 
 -- ---- back from what is written
@@ -205,11 +205,11 @@ reads-plain c plain =
     let as_is = plain-coded c plain in
     record {
       ends = λ place bytes.
-        ap (λ l. format_end false place (l ++ bytes)) as_is
-        ∙ cond-false (c == 34) _ _ (plain-no-quote c plain)
-        ∙ cond-false (c == 92) _ _ (plain-no-backslash c plain)
-        ∙ cond-true (is_plain c) _ _ plain
-        ∙ ap (λ l. format_end false (place + length l) bytes) (sym as_is);
+          ap (λ l. format_end false place (l ++ bytes)) as_is
+          ∙ cond-false (c == 34) _ _ (plain-no-quote c plain)
+          ∙ cond-false (c == 92) _ _ (plain-no-backslash c plain)
+          ∙ cond-true (is_plain c) _ _ plain
+          ∙ ap (λ l. format_end false (place + length l) bytes) (sym as_is);
       text = λ bytes. ap (λ l. unescaped false (l ++ bytes)) as_is ∙ cond-false (c == 92) _ _ (plain-no-backslash c plain);
     }
 

@@ -3,11 +3,14 @@ pub mod DistinctLaws
 pub mod ElementLaws
 pub mod FormatLaws
 pub mod LongestLaws
+pub mod LongestMatch
 pub mod NumberLaws
 pub mod NumberedLaws
 pub mod PieceLaws
 pub mod PlaceLaws
 pub mod Reasons
+pub mod SaysLaws
 pub mod StepLaws
 pub mod TextLaws
 pub mod Walks
+pub mod WholeLaws

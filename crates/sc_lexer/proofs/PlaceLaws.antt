@@ -5,6 +5,7 @@ use Rattle.std.specs.List.{list_all}
 use Rattle.std.proofs.lemmas.List.{reverse-append, reverse-reverse}
 use Rattle.std.proofs.lemmas.List.Sums.{take_while-cons}
 use Rattle.std.proofs.lemmas.List.Elements.{All-nil, All-push, All-same}
+use Rattle.sc_tree.specs.Names.{number_of}
 use Rattle.sc_tree.specs.declared.token.Token.{Token}
 use Rattle.sc_tree.specs.declared.token.TokenKind.{TokenKind}
 use Rattle.sc_tree.specs.declared.token.TokenKind.TheVariants as kind
@@ -14,6 +15,7 @@ use Rattle.sc_lexer.specs.declared.element.Found.{Found}
 use Rattle.sc_lexer.specs.declared.element.Found.TheVariants as found
 use Rattle.sc_lexer.specs.Class.{is_blank, is_newline, is_not_newline}
 use Rattle.sc_lexer.specs.Defined.{defined_value}
+use Rattle.sc_lexer.specs.Format.{format_text}
 use Rattle.sc_lexer.specs.Text.{State, start, with_token, with_named, taken, after, is_fresh_after, Reaches, IsLexed}
 use Rattle.sc_lexer.specs.Placed.{IsOnItsLine, is_line_start}
 use Rattle.sc_lexer.proofs.PieceLaws.{Stands, start-stands, front_there, next-stands, is_fresh_after-append}
@@ -29,7 +31,7 @@ pushed : (text before rest : List ℕ) (s : State) (k : TokenKind) → Stands te
 pushed text before rest s k stands all = All-push (IsOnItsLine text) s.tokens (record { kind = k; at = s.at; line = s.line }) all (token-on-line text before rest s k stands)
 
 named-pushed : (text before rest : List ℕ) (s : State) (piece : List ℕ) (o : Option ℤ) → Stands text before rest s → All (IsOnItsLine text) s.tokens → All (IsOnItsLine text) (with_named s piece o).tokens
-named-pushed text before rest s piece None stands all = All-push (IsOnItsLine text) s.tokens _ all (token-on-line text before rest s _ stands)
+named-pushed text before rest s piece None stands all = pushed text before rest s (kind.Name (number_of piece s.names)) stands all
 named-pushed text before rest s piece (Some v) stands all = pushed text before rest s (kind.Number v) stands all
 
 taken-pushed : (text before rest : List ℕ) (s : State) (piece : List ℕ) (f : Found) → Stands text before rest s → All (IsOnItsLine text) s.tokens → All (IsOnItsLine text) (taken s piece f).tokens
@@ -38,7 +40,7 @@ taken-pushed text before rest s piece found.Include stands all = all
 taken-pushed text before rest s piece (found.Define from size value) stands all = all
 taken-pushed text before rest s piece (found.Number v) stands all = pushed text before rest s (kind.Number v) stands all
 taken-pushed text before rest s piece found.Name stands all = named-pushed text before rest s piece (defined_value piece s.defined) stands all
-taken-pushed text before rest s piece found.Format stands all = All-push (IsOnItsLine text) s.tokens _ all (token-on-line text before rest s _ stands)
+taken-pushed text before rest s piece found.Format stands all = pushed text before rest s (kind.Format (number_of (format_text piece) s.texts)) stands all
 taken-pushed text before rest s piece (found.Word word) stands all = pushed text before rest s (kind.Word word) stands all
 taken-pushed text before rest s piece (found.Mark mark) stands all = pushed text before rest s (kind.Mark mark) stands all
 

@@ -92,7 +92,7 @@ pub fn comments_end_first()
 /// An open comment has no end behind its beginning.
 pub fn open_comments_have_no_end()
     ensures begins { (text : List ℕ) (place : ℕ) → IsRefused text (OpenComment place) → starts_with nat_eq (drop place text) (codes "/*") ≡ true }
-    ensures open { (text : List ℕ) (place : ℕ) → IsRefused text (OpenComment place) → HasNoEnd (drop (place + 2) text) }
+    ensures no_end { (text : List ℕ) (place : ℕ) → IsRefused text (OpenComment place) → HasNoEnd (drop (place + 2) text) }
 {}
 
 /// Each format of a text is printable, and its text, written again with its escapes, is the format.

@@ -218,9 +218,7 @@ fn begins_token(refused: Refused) -> bool
 {
     match refused {
         Refused::BadToken(_) => true,
-        Refused::BadByte
-        | Refused::OpenComment
-        | Refused::WideNumber
-        | Refused::BadDirective => false,
+        Refused::BadByte | Refused::OpenComment | Refused::WideNumber | Refused::BadDirective =>
+            false,
     }
 }
