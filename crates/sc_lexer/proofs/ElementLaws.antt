@@ -140,7 +140,7 @@ format_at-fair defined (b ∷ bs) h = quoted-fair defined b bs (format_end false
 
 -- ---- marks
 
-mark_text-positive : (m : Mark) → 0 < length (mark_text m)
+pub mark_text-positive : (m : Mark) → 0 < length (mark_text m)
 mark_text-positive mark.ShiftLeftEqual = lit< tt
 mark_text-positive mark.ShiftRightEqual = lit< tt
 mark_text-positive mark.ColonColon = lit< tt

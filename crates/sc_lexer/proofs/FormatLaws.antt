@@ -4,9 +4,10 @@ use Rattle.std.specs.Prelude.{◌==◌, ◌||◌, ◌⊎◌}
 use Rattle.std.specs.List.{flat_map, list_all}
 use Rattle.std.proofs.lemmas.Bool.{cases_Bool, or_cases, and_parts, and_from, eqb-true, cond-true, cond-false, false≢true}
 use Rattle.std.proofs.lemmas.Bool.Decides.{nat_tests}
-use Rattle.std.proofs.lemmas.List.{append_assoc, append-nil, take_at}
+use Rattle.std.proofs.lemmas.List.{append_assoc, take_at}
+use Rattle.std.proofs.lemmas.List.Folds.{list_all-append}
 use Rattle.sc_lexer.specs.declared.refusal.Refused.{Refused}
-use Rattle.sc_lexer.specs.Class.{begins_with}
+use Rattle.sc_lexer.specs.Class.{begins_with, is_not_newline}
 use Rattle.sc_lexer.specs.Format.{is_printable, is_plain, is_escape, escape_value, format_end, unescaped, coded, is_writable, written, quoted_text, between_quotes, format_text, IsFormat}
 
 -- from this place on the bytes are those of a text as it is written, and a quote, and the place after it is the end
@@ -160,14 +161,34 @@ format-of bytes inner whole writable again printable =
       printable = ap (list_all is_printable) middle ∙ printable;
     }
 
+whole-format : (b : ℕ) (bs : List ℕ) (end : ℕ) → (b == 34) ≡ true → (h : Spells 1 bs end) → take end (b ∷ bs) ≡ 34 ∷ (take h.n bs ++ 34 ∷ [])
+whole-format b bs end quote h =
+    let size : end ≡ suc (suc h.n) = omega (arith, h.ends) in
+    ap (λ n. take n (b ∷ bs)) size ∙ ap (λ x. x ∷ take (suc h.n) bs) (eqb-true b 34 quote) ∙ ap (λ l. 34 ∷ l) (take-quote h.n bs h.quote)
+
 -- the bytes of a format behind its first quote
 pub format_end-format : (b : ℕ) (bs : List ℕ) (end : ℕ) → (b == 34) ≡ true → format_end false 1 bs ≡ Ok end → IsFormat (take end (b ∷ bs))
 format_end-format b bs end quote e =
     let h : Spells 1 bs end = format_end-after false 1 bs end e in
-    let size : end ≡ suc (suc h.n) = omega (arith, h.ends) in
-    let whole : take end (b ∷ bs) ≡ 34 ∷ (take h.n bs ++ 34 ∷ []) =
-    ap (λ n. take n (b ∷ bs)) size ∙ ap (λ x. x ∷ take (suc h.n) bs) (eqb-true b 34 quote) ∙ ap (λ l. 34 ∷ l) (take-quote h.n bs h.quote) in
-    format-of (take end (b ∷ bs)) (take h.n bs) whole h.writable h.again h.printable
+    format-of (take end (b ∷ bs)) (take h.n bs) (whole-format b bs end quote h) h.writable h.again h.printable
+
+printable-on-line : (b : ℕ) → is_printable b ≡ true → is_not_newline b ≡ true
+printable-on-line b e = grind (arith, nat_tests)
+
+all-on-line : (bytes : List ℕ) → list_all is_printable bytes ≡ true → list_all is_not_newline bytes ≡ true
+all-on-line [] e = refl
+all-on-line (b ∷ bs) e =
+    let parts = and_parts (is_printable b) (list_all is_printable bs) e in
+    and_from (is_not_newline b) (list_all is_not_newline bs) (printable-on-line b parts.0) (all-on-line bs parts.1)
+
+-- it stands on one line
+pub format_end-line : (b : ℕ) (bs : List ℕ) (end : ℕ) → (b == 34) ≡ true → format_end false 1 bs ≡ Ok end → list_all is_not_newline (take end (b ∷ bs)) ≡ true
+format_end-line b bs end quote e =
+    let h : Spells 1 bs end = format_end-after false 1 bs end e in
+    let inner = take h.n bs in
+    ap (list_all is_not_newline) (whole-format b bs end quote h)
+    ∙ list_all-append is_not_newline inner (34 ∷ [])
+    ∙ and_from (list_all is_not_newline inner) true (all-on-line inner h.printable) refl
 
 -- ---- back from what is written
 

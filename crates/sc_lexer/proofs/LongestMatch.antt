@@ -9,13 +9,13 @@ use Rattle.std.proofs.lemmas.Bool.Decides.{nat_tests}
 use Rattle.std.proofs.lemmas.List.{get_or-take, take-append-drop, drop_more}
 use Rattle.std.proofs.lemmas.List.Elements.{All-from_get_or}
 use Rattle.std.proofs.lemmas.List.Folds.{length-prefix_len, list_all-append, list_all_at, list_any_at}
-use Rattle.std.proofs.lemmas.List.Sums.{prefix_len_passes, prefix_len_stops, prefix_len-le-length, list_all-from_AllPass}
+use Rattle.std.proofs.lemmas.List.Sums.{prefix_len_passes, prefix_len_stops, prefix_len-le-length, list_all-from_AllPass, AllPass-from_list_all}
 use Rattle.std.proofs.lemmas.Option.{slice_get_within, get_or_from_slice_get}
 use Rattle.std.proofs.lemmas.Slice.Eq.{bytes_eq-Decides}
 use Rattle.sc_tree.specs.Names.{Text}
 use Rattle.sc_tree.specs.declared.token.Word.{Word}
 use Rattle.sc_tree.specs.declared.token.Mark.{Mark}
-use Rattle.sc_lexer.specs.Class.{is_name_start, is_name_byte, begins_with}
+use Rattle.sc_lexer.specs.Class.{is_blank, is_not_newline, is_name_start, is_name_byte, begins_with}
 use Rattle.sc_lexer.specs.Spelling.{word_text, mark_text, words, marks, word_of, mark_of}
 use Rattle.sc_lexer.specs.Number.{is_hex, numeral_size}
 use Rattle.sc_lexer.specs.Longest.{is_name, is_decimal, is_hexadecimal, is_number, is_mark, IsLongest}
@@ -59,7 +59,7 @@ name-longest bytes begins =
 
 -- ---- numbers
 
-all-weaker : (p q : ℕ → Bool) → ((b : ℕ) → p b ≡ true → q b ≡ true) → (bytes : List ℕ) → list_all p bytes ≡ true → list_all q bytes ≡ true
+pub all-weaker : (p q : ℕ → Bool) → ((b : ℕ) → p b ≡ true → q b ≡ true) → (bytes : List ℕ) → list_all p bytes ≡ true → list_all q bytes ≡ true
 all-weaker p q weaker [] e = refl
 all-weaker p q weaker (b ∷ bs) e =
     let parts = and_parts (p b) (list_all p bs) e in
@@ -161,6 +161,10 @@ number-fits bytes digit =
 pub begins-at : (c : ℕ → Bool) (bytes : List ℕ) (i : ℕ) → i < length bytes → begins_with c (drop i bytes) ≡ c (get_or bytes i 0)
 begins-at c bytes i h = ap (begins_with c) (drop_more bytes i 0 h)
 
+-- each byte of the number at the front may stand in a name
+pub number-front : (bytes : List ℕ) → begins_with is_ascii_digit bytes ≡ true → list_all is_name_byte (take (numeral_size bytes) bytes) ≡ true
+number-front bytes digit = number-bytes (take (numeral_size bytes) bytes) (number-fits bytes digit)
+
 pub number-longest : (bytes : List ℕ) → begins_with is_ascii_digit bytes ≡ true → begins_with is_name_byte (drop (numeral_size bytes) bytes) ≡ false → IsLongest is_number bytes (numeral_size bytes)
 number-longest bytes digit stops = record {
   fits = number-fits bytes digit;
@@ -211,6 +215,18 @@ mark-longest bytes m found = record {
       let shorter = longest-mark bytes m other.0 found (front-begins bytes (mark_text other.0) front) in
       omega arith);
 }
+
+-- what holds of every mark
+each-mark : (p : Mark → Bool) → list_all p marks ≡ true → (m : Mark) → p m ≡ true
+each-mark p all m =
+    let is = is-placed m in
+    ap p (sym (get_or_from_slice_get marks (place-of m) m m is)) ∙ AllPass-from_list_all p marks all (place-of m) m (slice_get_within marks (place-of m) m is)
+
+pub mark-on-line : (m : Mark) → list_all is_not_newline (mark_text m) ≡ true
+mark-on-line m = each-mark (λ x. list_all is_not_newline (mark_text x)) refl m
+
+pub mark-no-blank : (m : Mark) → not (begins_with is_blank (mark_text m)) ≡ true
+mark-no-blank m = each-mark (λ x. not (begins_with is_blank (mark_text x))) refl m
 
 -- ---- words
 

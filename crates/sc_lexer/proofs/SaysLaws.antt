@@ -3,10 +3,11 @@ use Rattle.std.proofs.Common.{◌≡◌, ℕ, zero, suc, ◌+◌, ◌<◌, ◌�
 use Rattle.std.specs.Prelude.{◌==◌, ◌||◌, ◌&&◌, ◌^◌, not, nat_eq, nat_lt, codes}
 use Rattle.std.specs.List.{list_all, prefix_len, starts_with}
 use Rattle.std.specs.Char.{is_ascii_digit}
-use Rattle.std.proofs.lemmas.Bool.{cond_both, and_parts, cases_lt, eqb-true, false≢true, ne_eqb}
+use Rattle.std.proofs.lemmas.Bool.{cond_both, and_parts, cases_lt, eqb-true, false≢true, ne_eqb, not-true}
 use Rattle.std.proofs.lemmas.Bool.Decides.{nat_tests}
 use Rattle.std.proofs.lemmas.List.{drop_all}
-use Rattle.std.proofs.lemmas.List.Sums.{prefix_len-le-length, prefix_len_stops}
+use Rattle.std.proofs.lemmas.List.Folds.{length-prefix_len}
+use Rattle.std.proofs.lemmas.List.Sums.{prefix_len_stops}
 use Rattle.sc_tree.specs.declared.token.Word.{Word}
 use Rattle.sc_tree.specs.declared.token.Mark.{Mark}
 use Rattle.sc_lexer.specs.declared.number.Numeral.{Numeral}
@@ -24,9 +25,10 @@ use Rattle.sc_lexer.specs.Defined.{Definitions}
 use Rattle.sc_lexer.specs.Element.{element_at, or_solid, solid_at, name_at, named, numeral_at, numbered, format_at, quoted, mark_at, marked, directive_at, definition_at, can_define, defined_as, ends_line}
 use Rattle.sc_lexer.specs.Longest.{is_name, IsLongest, IsLongestFound}
 use Rattle.sc_lexer.specs.Piece.{is_directive}
-use Rattle.sc_lexer.proofs.FormatLaws.{format_end-format}
+use Rattle.sc_lexer.proofs.ElementLaws.{mark_text-positive}
+use Rattle.sc_lexer.proofs.FormatLaws.{format_end-format, format_end-line}
 use Rattle.sc_lexer.proofs.LongestLaws.{comment_end-first, comment_end-none}
-use Rattle.sc_lexer.proofs.LongestMatch.{all-prefix, begins-at, name-longest, number-longest, mark-front, mark-longest, word-front}
+use Rattle.sc_lexer.proofs.LongestMatch.{all-prefix, all-weaker, begins-at, begins-take, name-longest, number-front, number-longest, mark-front, mark-longest, mark-on-line, mark-no-blank, word-front}
 
 abbrev pub begins_hash : List ℕ → Bool
 begins_hash bytes = begins_with (λ b. b == 35) bytes
@@ -41,12 +43,28 @@ IsOther bytes size found.Name = Unit {0}
 IsOther bytes size (found.Word word) = Unit {0}
 IsOther bytes size (found.Mark mark) = Unit {0}
 
+-- so many bytes stand on one line, and the first is no blank
+pub record IsSolid (bytes : List ℕ) (size : ℕ) : Type 0 where
+  pub first : begins_with is_blank bytes ≡ false
+  pub on_line : list_all is_not_newline (take size bytes) ≡ true
+
+abbrev pub IsGapOrSolid : List ℕ → ℕ → Found → Type 0
+IsGapOrSolid bytes size found.Gap = Unit {0}
+IsGapOrSolid bytes size found.Format = IsSolid bytes size
+IsGapOrSolid bytes size found.Include = IsSolid bytes size
+IsGapOrSolid bytes size (found.Define from name_size value) = IsSolid bytes size
+IsGapOrSolid bytes size (found.Number value) = IsSolid bytes size
+IsGapOrSolid bytes size found.Name = IsSolid bytes size
+IsGapOrSolid bytes size (found.Word word) = IsSolid bytes size
+IsGapOrSolid bytes size (found.Mark mark) = IsSolid bytes size
+
 -- what a good element says
 pub record Says (fresh : Bool) (bytes : List ℕ) (size : ℕ) (f : Found) : Type 0 where
   pub hash : begins_hash bytes ≡ is_directive f
   pub start : is_directive f ≡ true → fresh ≡ true
   pub longest : IsLongestFound bytes size f
   pub other : IsOther bytes size f
+  pub solid : IsGapOrSolid bytes size f
 
 -- what an open comment says
 pub record IsOpen (bytes : List ℕ) : Type 0 where
@@ -84,15 +102,40 @@ bad_directive bytes e = absurd (differ e)
     differ : refused.BadDirective ≡ refused.OpenComment → ⊥
     differ e = cc
 
+-- what stands for the first byte and the others
+no-blank : (c : ℕ → Bool) → ((b : ℕ) → c b ≡ true → is_blank b ≡ false) → (bytes : List ℕ) → begins_with c bytes ≡ true → begins_with is_blank bytes ≡ false
+no-blank c apart [] e = absurd (false≢true e)
+no-blank c apart (b ∷ bs) e = apart b e
+
+name-no-blank : (b : ℕ) → is_name_start b ≡ true → is_blank b ≡ false
+name-no-blank b e = grind (arith, nat_tests)
+
+digit-no-blank : (b : ℕ) → is_ascii_digit b ≡ true → is_blank b ≡ false
+digit-no-blank b e = grind (arith, nat_tests)
+
+quote-no-blank : (b : ℕ) → (b == 34) ≡ true → is_blank b ≡ false
+quote-no-blank b e = grind (arith, nat_tests)
+
+hash-no-blank : (b : ℕ) → (b == 35) ≡ true → is_blank b ≡ false
+hash-no-blank b e = grind (arith, nat_tests)
+
+name-on-line : (b : ℕ) → is_name_byte b ≡ true → is_not_newline b ≡ true
+name-on-line b e = grind (arith, nat_tests)
+
+on-line : (bytes : List ℕ) → list_all is_name_byte bytes ≡ true → list_all is_not_newline bytes ≡ true
+on-line bytes e = all-weaker is_name_byte is_not_newline name-on-line bytes e
+
 -- ---- names, numbers, formats and marks
 
-named-says : (fresh : Bool) (bytes : List ℕ) (size : ℕ) → begins_hash bytes ≡ false → IsLongest is_name bytes size → (o : Option Word) → word_of (take size bytes) ≡ o → Says fresh bytes size (named o)
-named-says fresh bytes size no_hash longest None is = record { hash = no_hash; start = no_directive fresh; longest = longest; other = tt }
-named-says fresh bytes size no_hash longest (Some w) is = record { hash = no_hash; start = no_directive fresh; longest = (longest, word-front (take size bytes) w is); other = tt }
+named-says : (fresh : Bool) (bytes : List ℕ) (size : ℕ) → begins_hash bytes ≡ false → IsLongest is_name bytes size → IsSolid bytes size → (o : Option Word) → word_of (take size bytes) ≡ o → Says fresh bytes size (named o)
+named-says fresh bytes size no_hash longest solid None is = record { hash = no_hash; start = no_directive fresh; longest = longest; other = tt; solid = solid }
+named-says fresh bytes size no_hash longest solid (Some w) is = record { hash = no_hash; start = no_directive fresh; longest = (longest, word-front (take size bytes) w is); other = tt; solid = solid }
 
 name_at-says : (fresh : Bool) (bytes : List ℕ) → begins_hash bytes ≡ false → begins_with is_name_start bytes ≡ true → Says fresh bytes (name_at bytes).size (name_at bytes).found
 unfolding name_at
-name_at-says fresh bytes no_hash begins = named-says fresh bytes (prefix_len is_name_byte bytes) no_hash (name-longest bytes begins) (word_of (take (prefix_len is_name_byte bytes) bytes)) refl
+name_at-says fresh bytes no_hash begins =
+    let solid : IsSolid bytes (prefix_len is_name_byte bytes) = record { first = no-blank is_name_start name-no-blank bytes begins; on_line = on-line (take (prefix_len is_name_byte bytes) bytes) (all-prefix is_name_byte bytes) } in
+    named-says fresh bytes (prefix_len is_name_byte bytes) no_hash (name-longest bytes begins) solid (word_of (take (prefix_len is_name_byte bytes) bytes)) refl
 
 numeral_at-says : (fresh : Bool) (bytes : List ℕ) → begins_hash bytes ≡ false → begins_with is_ascii_digit bytes ≡ true → SaysResult fresh bytes (numeral_at bytes)
 unfolding numeral_at number_at
@@ -101,7 +144,13 @@ numeral_at-says fresh bytes no_hash digit =
     cond_both (nat_lt (numeral_value bytes) (2 ^ 63)) _ _ P
     (λ _. cond_both (begins_with is_name_byte (drop (numeral_size bytes) bytes)) _ _ P
     (λ _. bad_token bytes (numeral_size bytes))
-    (λ stops. record { hash = no_hash; start = no_directive fresh; longest = number-longest bytes digit stops; other = tt }))
+    (λ stops. record {
+      hash = no_hash;
+      start = no_directive fresh;
+      longest = number-longest bytes digit stops;
+      other = tt;
+      solid = record { first = no-blank is_ascii_digit digit-no-blank bytes digit; on_line = on-line (take (numeral_size bytes) bytes) (number-front bytes digit) };
+    }))
     (λ _. wide_number bytes)
 
 -- a format is refused for a byte of it
@@ -123,7 +172,13 @@ format_end-token true place (b ∷ bs) =
     cond_both (is_escape b) _ _ IsBadToken (λ _. plain_on) (λ _. (_, refl))
 
 quoted-says : (fresh : Bool) (b : ℕ) (bs : List ℕ) → begins_hash (b ∷ bs) ≡ false → (b == 34) ≡ true → (r : Result ℕ Refused) → format_end false 1 bs ≡ r → IsBadToken r → SaysResult fresh (b ∷ bs) (quoted r)
-quoted-says fresh b bs no_hash quote (Ok n) is bad = record { hash = no_hash; start = no_directive fresh; longest = tt; other = format_end-format b bs n quote is }
+quoted-says fresh b bs no_hash quote (Ok n) is bad = record {
+  hash = no_hash;
+  start = no_directive fresh;
+  longest = tt;
+  other = format_end-format b bs n quote is;
+  solid = record { first = quote-no-blank b quote; on_line = format_end-line b bs n quote is };
+}
 quoted-says fresh b bs no_hash quote (Err r) is bad = λ e. bad_token (b ∷ bs) bad.0 (sym bad.1 ∙ e)
 
 format_at-says : (fresh : Bool) (bytes : List ℕ) → begins_hash bytes ≡ false → begins_with (λ b. b == 34) bytes ≡ true → SaysResult fresh bytes (format_at bytes)
@@ -131,28 +186,39 @@ unfolding format_at
 format_at-says fresh [] no_hash quote = absurd (false≢true quote)
 format_at-says fresh (b ∷ bs) no_hash quote = quoted-says fresh b bs no_hash quote (format_end false 1 bs) refl (format_end-token false 1 bs)
 
+mark-solid : (bytes : List ℕ) (m : Mark) → mark_of bytes ≡ Some m → IsSolid bytes (length (mark_text m))
+mark-solid bytes m is =
+    let front = mark-front bytes m is in
+    record {
+      first = sym (begins-take is_blank bytes (length (mark_text m)) (mark_text-positive m)) ∙ ap (begins_with is_blank) front ∙ not-true (begins_with is_blank (mark_text m)) (mark-no-blank m);
+      on_line = ap (list_all is_not_newline) front ∙ mark-on-line m;
+    }
+
 marked-says : (fresh : Bool) (bytes : List ℕ) → begins_hash bytes ≡ false → (o : Option Mark) → mark_of bytes ≡ o → SaysResult fresh bytes (marked o)
 marked-says fresh bytes no_hash None is = bad_byte bytes
-marked-says fresh bytes no_hash (Some m) is = record { hash = no_hash; start = no_directive fresh; longest = (mark-longest bytes m is, mark-front bytes m is); other = tt }
+marked-says fresh bytes no_hash (Some m) is = record { hash = no_hash; start = no_directive fresh; longest = (mark-longest bytes m is, mark-front bytes m is); other = tt; solid = mark-solid bytes m is }
 
 -- ---- directives
 
-directive_at-says : (bytes : List ℕ) → begins_hash bytes ≡ true → (defined : Definitions) (line : List ℕ) → SaysResult true bytes (directive_at defined line)
+directive_at-says : (bytes : List ℕ) → begins_hash bytes ≡ true → (defined : Definitions) (line : List ℕ) → list_all is_not_newline (take (length line) bytes) ≡ true → SaysResult true bytes (directive_at defined line)
 unfolding directive_at definition_at defined_as number_at
-directive_at-says bytes hash defined line =
+directive_at-says bytes hash defined line on_line =
     let place = 1 + prefix_len is_blank (drop 1 line) in
     let P : Result Element Refused → Type 0 = SaysResult true bytes in
     cond_both (starts_with nat_eq (drop place line) (codes "include")) _ _ P
-    (λ _. record { hash = hash; start = λ _. refl; longest = tt; other = tt })
+    (λ _. record { hash = hash; start = λ _. refl; longest = tt; other = tt; solid = solid })
     (λ _. cond_both (starts_with nat_eq (drop place line) (codes "define")) _ _ P
     (λ _. definition-says (place + 6))
     (λ _. bad_directive bytes))
   where
-    ends_line-says : (size from name_size : ℕ) (number : List ℕ) (r : Result Numeral Refused) → SaysResult true bytes (ends_line size from name_size number r)
-    ends_line-says size from name_size number (Err r) = bad_directive bytes
-    ends_line-says size from name_size number (Ok n) =
+    solid : IsSolid bytes (length line)
+    solid = record { first = no-blank (λ b. b == 35) hash-no-blank bytes hash; on_line = on_line }
+
+    ends_line-says : (from name_size : ℕ) (number : List ℕ) (r : Result Numeral Refused) → SaysResult true bytes (ends_line (length line) from name_size number r)
+    ends_line-says from name_size number (Err r) = bad_directive bytes
+    ends_line-says from name_size number (Ok n) =
         cond_both (only_gaps (length (drop n.size number)) (drop n.size number)) _ _ (SaysResult true bytes)
-        (λ _. record { hash = hash; start = λ _. refl; longest = tt; other = tt })
+        (λ _. record { hash = hash; start = λ _. refl; longest = tt; other = tt; solid = solid })
         (λ _. bad_directive bytes)
 
     definition-says : (place : ℕ) → SaysResult true bytes (definition_at defined line place)
@@ -166,8 +232,11 @@ directive_at-says bytes hash defined line =
         cond_both ((from == place) || not (can_define defined (take size name))) _ _ P
         (λ _. bad_directive bytes)
         (λ _. cond_both (begins_with is_ascii_digit number) _ _ P
-        (λ _. ends_line-says (length line) from size number (number_at number))
+        (λ _. ends_line-says from size number (number_at number))
         (λ _. bad_directive bytes))
+
+line-on-line : (bytes : List ℕ) → list_all is_not_newline (take (length (take (prefix_len is_not_newline bytes) bytes)) bytes) ≡ true
+line-on-line bytes = ap (λ n. list_all is_not_newline (take n bytes)) (length-prefix_len is_not_newline bytes) ∙ all-prefix is_not_newline bytes
 
 solid_at-says : (fresh : Bool) (defined : Definitions) (bytes : List ℕ) → SaysResult fresh bytes (solid_at fresh defined bytes)
 unfolding solid_at mark_at
@@ -175,7 +244,7 @@ solid_at-says fresh defined bytes =
     let P : Result Element Refused → Type 0 = SaysResult fresh bytes in
     cond_both (begins_hash bytes) _ _ P
     (λ hash. cond_both fresh _ _ P
-    (λ is_fresh. let Q : Bool → Type 0 = λ b. SaysResult b bytes (directive_at defined (take (prefix_len is_not_newline bytes) bytes)) in subst Q (sym is_fresh) (directive_at-says bytes hash defined (take (prefix_len is_not_newline bytes) bytes)))
+    (λ is_fresh. let Q : Bool → Type 0 = λ b. SaysResult b bytes (directive_at defined (take (prefix_len is_not_newline bytes) bytes)) in subst Q (sym is_fresh) (directive_at-says bytes hash defined (take (prefix_len is_not_newline bytes) bytes) (line-on-line bytes)))
     (λ _. bad_byte bytes))
     (λ no_hash. cond_both (begins_with is_name_start bytes) _ _ P
     (λ name. name_at-says fresh bytes no_hash name)
@@ -237,7 +306,7 @@ or_solid-says fresh defined bytes None opened = λ _. opened
 or_solid-says fresh defined bytes (Some zero) says = solid_at-says fresh defined bytes
 or_solid-says fresh defined bytes (Some (suc n)) says =
     let there = says (omega arith) in
-    record { hash = there.no_hash; start = no_directive fresh; longest = tt; other = there.gap }
+    record { hash = there.no_hash; start = no_directive fresh; longest = tt; other = there.gap; solid = tt }
 
 pub element_at-says : (fresh : Bool) (defined : Definitions) (bytes : List ℕ) → SaysResult fresh bytes (element_at fresh defined bytes)
 unfolding element_at

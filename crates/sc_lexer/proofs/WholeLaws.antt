@@ -1,8 +1,11 @@
 -- The laws of whole texts that follow from what each element says.
-use Rattle.std.proofs.Common.{◌≡◌, ℕ, ◌+◌, ◌<◌, ◌≤◌, refl, sym, ap, ◌∙◌, subst, arith, Bool, true, false, cond, List, [], ◌∷◌, ◌++◌, take, drop, length, length-take-le, Result, Ok, Err}
-use Rattle.std.specs.Prelude.{◌==◌, ◌&&◌, All, slice_get, Some, nat_eq, codes}
+use Rattle.std.proofs.Common.{◌≡◌, ℕ, zero, suc, ◌+◌, ◌-◌, ◌<◌, ◌≤◌, refl, sym, ap, ◌∙◌, subst, arith, Bool, true, false, cond, List, [], ◌∷◌, ◌++◌, take, drop, length, length-take-le, Result, Ok, Err, inl, inr, ⊎_elim}
+use Rattle.std.specs.Prelude.{◌==◌, ◌&&◌, ◌||◌, ◌⊎◌, All, slice_get, Some, nat_eq, codes}
 use Rattle.std.specs.List.{list_all, starts_with}
-use Rattle.std.proofs.lemmas.List.{drop-drop, append_assoc}
+use Rattle.std.proofs.lemmas.Bool.{and_parts, both_ways, cases_lt, not-true}
+use Rattle.std.proofs.lemmas.List.{drop-drop, append_assoc, take-take}
+use Rattle.std.proofs.lemmas.List.Elements.{All-take}
+use Rattle.std.proofs.lemmas.List.Sums.{AllPass-from_list_all, list_all-from_AllPass}
 use Rattle.std.proofs.lemmas.Option.{slice_get_within, get_or_from_slice_get}
 use Rattle.sc_tree.specs.declared.lexed.Lexed.{Lexed}
 use Rattle.sc_lexer.specs.declared.refusal.Refused.{Refused}
@@ -12,19 +15,20 @@ use Rattle.sc_lexer.specs.declared.refusal.LexError.TheVariants as errors
 use Rattle.sc_lexer.specs.declared.element.Element.{Element}
 use Rattle.sc_lexer.specs.declared.element.Found.{Found}
 use Rattle.sc_lexer.specs.declared.element.Found.TheVariants as found
+use Rattle.sc_lexer.specs.Class.{is_blank, is_newline, is_not_newline, begins_with}
 use Rattle.sc_lexer.specs.Defined.{Definitions}
 use Rattle.sc_lexer.specs.Element.{element_at, or_solid, solid_at, format_at, quoted}
 use Rattle.sc_lexer.specs.Format.{format_end, is_writable, written, quoted_text, IsFormat}
 use Rattle.sc_lexer.specs.Gap.{gap_at, HasNoEnd, IsGap}
 use Rattle.sc_lexer.specs.Longest.{IsLongestFound, IsLongestPiece}
 use Rattle.sc_lexer.specs.Piece.{Piece, pieces, is_directive, Covers}
-use Rattle.sc_lexer.specs.Placed.{is_line_start, IsMarkedOff}
+use Rattle.sc_lexer.specs.Placed.{is_line_start, IsMarkedOff, IsDirectiveAt}
 use Rattle.sc_lexer.specs.Text.{State, start, counted, named_at, begins_token, is_token, is_full, is_fresh_after, element_of, IsLexed, IsRefused}
 use Rattle.sc_lexer.proofs.FormatLaws.{format_end-read-back}
 use Rattle.sc_lexer.proofs.LongestMatch.{begins-take}
-use Rattle.sc_lexer.proofs.PieceLaws.{Stands, start-stands, IsThere, piece_of, all-pieces, back_there, covers-once, same-piece}
+use Rattle.sc_lexer.proofs.PieceLaws.{Stands, start-stands, is_fresh_after-append, IsThere, piece_of, all-pieces, back_there, covers-once, same-piece}
 use Rattle.sc_lexer.proofs.PlaceLaws.{fresh-is-start}
-use Rattle.sc_lexer.proofs.SaysLaws.{Says, IsOther, IsOpen, found-says, open-says}
+use Rattle.sc_lexer.proofs.SaysLaws.{Says, IsOther, IsSolid, IsGapOrSolid, IsOpen, found-says, open-says}
 
 says-there : (before rest : List ℕ) (s : State) (e : Element) → IsThere rest s e → Says s.fresh rest e.size e.found
 says-there before rest s e there = found-says s.fresh s.defined rest e there.found
@@ -89,6 +93,91 @@ outside-comments text a is i j p q at_i at_j directive gap covers =
     let first = covers-first text a is i p at_i in
     let same : p ≡ q = same-piece (pieces text is.0) i j p q at_i at_j (covers-once [] text is.0 i j p q (length p.before) at_i at_j first covers) in
     directive_no_gap p.found directive (ap (λ (x : Piece). x.found) same ∙ gap)
+
+-- ---- every place of a directive
+
+all-shorter : (p : ℕ → Bool) (k size : ℕ) (bytes : List ℕ) → k ≤ size → list_all p (take size bytes) ≡ true → list_all p (take k bytes) ≡ true
+all-shorter p k size bytes h all =
+    let P : ℕ → Type 0 = λ b. p b ≡ true in
+    ap (list_all p) (sym (take-take k size bytes h))
+    ∙ list_all-from_AllPass p (take k (take size bytes)) (All-take P k (take size bytes) (AllPass-from_list_all p (take size bytes) all))
+
+-- no line begins where no newline stands
+not-fresh : (bytes : List ℕ) → list_all is_not_newline bytes ≡ true → is_fresh_after false bytes ≡ false
+not-fresh [] all = refl
+not-fresh (b ∷ bs) all =
+    let parts = and_parts (is_not_newline b) (list_all is_not_newline bs) all in
+    ap (λ n. is_fresh_after (n || false) bs) (not-true (is_newline b) parts.0) ∙ not-fresh bs parts.1
+
+or-and : (newline fresh blank : Bool) → newline ≡ false → blank ≡ false → (newline || (fresh && blank)) ≡ false
+or-and newline true blank e f = cc
+or-and newline false blank e f = cc
+
+-- nor inside of what begins with no blank
+solid-not-fresh : (fresh : Bool) (bytes : List ℕ) (k : ℕ) → 0 < k → begins_with is_blank bytes ≡ false → 0 < length bytes → list_all is_not_newline (take k bytes) ≡ true → is_fresh_after fresh (take k bytes) ≡ false
+solid-not-fresh fresh bytes zero h first some all = absurd (omega arith)
+solid-not-fresh fresh [] (suc k) h first some all = absurd (omega arith)
+solid-not-fresh fresh (b ∷ bs) (suc k) h first some all =
+    let parts = and_parts (is_not_newline b) (list_all is_not_newline (take k bs)) all in
+    ap (λ f. is_fresh_after f (take k bs)) (or-and (is_newline b) fresh (is_blank b) (not-true (is_newline b) parts.0) first)
+    ∙ not-fresh (take k bs) parts.1
+
+front-and-more : (before rest : List ℕ) (place k : ℕ) → place ≡ length before + k → take place (before ++ rest) ≡ before ++ take k rest
+front-and-more before rest place k e = ap (λ n. take n (before ++ rest)) e ∙ go before rest k
+  where
+    go : (before rest : List ℕ) (k : ℕ) → take (length before + k) (before ++ rest) ≡ before ++ take k rest
+    go [] rest k = let same : 0 + k ≡ k = omega arith in ap (λ n. take n rest) same
+    go (b ∷ bs) rest k = let same : suc (length bs) + k ≡ suc (length bs + k) = omega arith in ap (λ n. take n (b ∷ (bs ++ rest))) same ∙ ap (λ l. b ∷ l) (go bs rest k)
+
+-- a `#` with only blanks before it on its line belongs to a comment or begins a directive
+IsExplained : List ℕ → Piece → Type 0
+IsExplained text p = (place : ℕ) → Covers p place → begins_with (λ b. b == 35) (drop place text) ≡ true → is_line_start (take place text) ≡ true → (p.found ≡ found.Gap) ⊎ IsDirectiveAt p place
+
+inside-not-start : (text before rest : List ℕ) (s : State) (e : Element) → Stands text before rest s → IsThere rest s e → IsSolid rest e.size → (place : ℕ) → length before < place → Covers (piece_of before rest e) place → is_line_start (take place text) ≡ false
+inside-not-start text before rest s e stands there solid place inside covers =
+    let k = place - length before in
+    let size = size-there rest s e there in
+    let within : e.size ≤ length rest = there.good.within in
+    let positive : 0 < k = omega arith in
+    let below : k ≤ e.size = omega (arith, covers.below) in
+    let some : 0 < length rest = omega (arith, there.good.positive) in
+    let same : place ≡ length before + k = omega arith in
+    sym (fresh-is-start (take place text))
+    ∙ ap (λ l. is_fresh_after true (take place l)) (sym stands.split)
+    ∙ ap (is_fresh_after true) (front-and-more before rest place k same)
+    ∙ is_fresh_after-append true before (take k rest)
+    ∙ solid-not-fresh (is_fresh_after true before) rest k positive solid.first some (all-shorter is_not_newline k e.size rest below solid.on_line)
+
+explained-solid : (text before rest : List ℕ) (s : State) (e : Element) → Stands text before rest s → IsThere rest s e → IsSolid rest e.size → IsExplained text (piece_of before rest e)
+unfolding IsExplained
+explained-solid text before rest s e stands there solid place covers hash start =
+    ⊎_elim
+    (λ inside. absurd (both_ways (is_line_start (take place text)) (inside-not-start text before rest s e stands there solid place inside covers) start))
+    (λ not_inside.
+    let same : length before ≡ place = omega (arith, covers.from) in
+    let front : drop place text ≡ rest = ap (λ n. drop n text) (sym same) ∙ back_there text before rest stands.split in
+    inr (record { begins = same; directive = sym (says-there before rest s e there).hash ∙ ap (begins_with (λ b. b == 35)) (sym front) ∙ hash }))
+    (cases_lt (length before) place)
+
+by-found : (text : List ℕ) (p : Piece) (bytes : List ℕ) (size : ℕ) → (f : Found) → f ≡ p.found → IsGapOrSolid bytes size f → (IsSolid bytes size → IsExplained text p) → IsExplained text p
+unfolding IsExplained
+by-found text p bytes size found.Gap is solid known place covers hash start = inl (sym is)
+by-found text p bytes size found.Include is solid known place covers hash start = known solid place covers hash start
+by-found text p bytes size (found.Define from name_size value) is solid known place covers hash start = known solid place covers hash start
+by-found text p bytes size (found.Number value) is solid known place covers hash start = known solid place covers hash start
+by-found text p bytes size found.Name is solid known place covers hash start = known solid place covers hash start
+by-found text p bytes size found.Format is solid known place covers hash start = known solid place covers hash start
+by-found text p bytes size (found.Word word) is solid known place covers hash start = known solid place covers hash start
+by-found text p bytes size (found.Mark mark) is solid known place covers hash start = known solid place covers hash start
+
+pub every-directive : (text : List ℕ) (a : Lexed) (is : IsLexed text a) (i : ℕ) (p : Piece) (place : ℕ) → slice_get (pieces text is.0) i ≡ Some p → Covers p place → begins_with (λ b. b == 35) (drop place text) ≡ true → is_line_start (take place text) ≡ true → (p.found ≡ found.Gap) ⊎ IsDirectiveAt p place
+unfolding IsExplained
+every-directive text a is i p place at_i covers hash start =
+    let all : All (IsExplained text) (pieces text is.0) = all-over text a is (IsExplained text)
+    (λ before rest s e stands there. by-found text (piece_of before rest e) rest e.size e.found refl (says-there before rest s e there).solid (explained-solid text before rest s e stands there)) in
+    let P : Piece → Type 0 = IsExplained text in
+    let here : IsExplained text p = subst P (get_or_from_slice_get (pieces text is.0) i p p at_i) (all i p (slice_get_within (pieces text is.0) i p at_i)) in
+    here place covers hash start
 
 -- ---- open comments
 

@@ -17,6 +17,11 @@ StandAt tokens ps = map (λ (t : Token). t.at) tokens ≡ map (λ (p : Piece). l
 abbrev pub is_line_start : List ℕ → Bool
 is_line_start before = list_all is_blank (take_while is_not_newline (reverse before))
 
+-- the piece is a directive that begins at this place
+pub record IsDirectiveAt (p : Piece) (place : ℕ) : Type 0 where
+  pub begins : length p.before ≡ place
+  pub directive : is_directive p.found ≡ true
+
 -- the pieces that begin with `#` are the directives, and only blanks stand before them on their line
 pub record IsMarkedOff (p : Piece) : Type 0 where
   pub hash : begins_with (λ b. b == 35) p.bytes ≡ is_directive p.found

@@ -1,21 +1,22 @@
 //! Laws of the definitions, as contracts of functions that do nothing. Where a law begins with a text that is
 //! read, `is.0` is the list of its elements.
 
-ghost use Rattle.std.specs.Prelude.{◌≡◌, ◌+◌, ◌<◌, ◌++◌, ℕ, Bool, List, ◌⊎◌, Some, None, Ok, true, false, length, drop, slice_get, nat_eq, codes, All};
+ghost use Rattle.std.specs.Prelude.{◌≡◌, ◌+◌, ◌<◌, ◌++◌, ℕ, Bool, List, ◌⊎◌, Some, None, Ok, true, false, length, take, drop, slice_get, nat_eq, codes, All, ◌==◌};
 ghost use Rattle.std.specs.List.{starts_with, list_all};
 ghost use Rattle.sc_tree.specs.declared.lexed.Lexed.{Lexed};
 ghost use Rattle.sc_tree.specs.declared.token.Token.{Token};
 ghost use Rattle.sc_lexer.specs.declared.refusal.LexError.{LexError};
 ghost use Rattle.sc_lexer.specs.declared.refusal.LexError.TheVariants.{OutOfMemory, OpenComment};
 ghost use Rattle.sc_lexer.specs.declared.element.Found.TheVariants as found;
+ghost use Rattle.sc_lexer.specs.Class.{begins_with};
 ghost use Rattle.sc_lexer.specs.Defined.{Definitions};
 ghost use Rattle.sc_lexer.specs.Element.{element_at};
 ghost use Rattle.sc_lexer.specs.Format.{format_text, is_writable, quoted_text, IsFormat};
 ghost use Rattle.sc_lexer.specs.Gap.{HasNoEnd, IsGap};
 ghost use Rattle.sc_lexer.specs.Longest.{IsLongestPiece};
-ghost use Rattle.sc_lexer.specs.Numbered.{with_pieces, HasNumber, IsNumbered};
+ghost use Rattle.sc_lexer.specs.Numbered.{with_pieces, HasNumber, IsNumbered, IsWhatItSays};
 ghost use Rattle.sc_lexer.specs.Piece.{Piece, pieces, joined, is_directive, Covers};
-ghost use Rattle.sc_lexer.specs.Placed.{IsMarkedOff, IsOnItsLine, StandAt};
+ghost use Rattle.sc_lexer.specs.Placed.{is_line_start, IsDirectiveAt, IsMarkedOff, IsOnItsLine, StandAt};
 ghost use Rattle.sc_lexer.specs.Text.{IsLexed, IsRefused};
 
 /// A text has at most one list of tokens with its names and its formats.
@@ -61,12 +62,22 @@ pub fn tokens_where_they_stand()
 {}
 
 /// The elements that begin with `#` are the directives. Only blanks stand before them on their line, and they
-/// stand in no comment.
+/// stand in no comment; and each `#` with only blanks before it on its line begins one, if it stands in no comment.
 pub fn directives_begin_lines()
     ensures marked_off { (text : List ℕ) (a : Lexed) (is : IsLexed text a) → All IsMarkedOff (pieces text is.0) }
     ensures outside { (text : List ℕ) (a : Lexed) (is : IsLexed text a) (i j : ℕ) (p q : Piece) →
         slice_get (pieces text is.0) i ≡ Some p → slice_get (pieces text is.0) j ≡ Some q →
         is_directive p.found ≡ true → q.found ≡ found.Gap → Covers q (length p.before) → ⊥ }
+    ensures each { (text : List ℕ) (a : Lexed) (is : IsLexed text a) (i : ℕ) (p : Piece) (place : ℕ) →
+        slice_get (pieces text is.0) i ≡ Some p → Covers p place → begins_with (λ b. b == 35) (drop place text) ≡ true →
+        is_line_start (take place text) ≡ true → (p.found ≡ found.Gap) ⊎ IsDirectiveAt p place }
+{}
+
+/// Each token is what its element says: that number, word or mark, or a format; and a name is the number that a
+/// directive before it defined it as, or else a name.
+pub fn tokens_are_what_they_say()
+    ensures { (text : List ℕ) (a : Lexed) (is : IsLexed text a) →
+        All (IsWhatItSays (pieces text is.0)) (with_pieces a.tokens (pieces text is.0)) }
 {}
 
 /// The names and the formats of a text are the distinct ones of its tokens in order of first appearance, and
