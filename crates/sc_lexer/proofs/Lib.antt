@@ -1,5 +1,4 @@
 pub mod DefinedLaws
-pub mod DistinctLaws
 pub mod ElementLaws
 pub mod FormatLaws
 pub mod LongestLaws

@@ -20,7 +20,7 @@ use Rattle.sc_lexer.specs.Text.{State, start, lexed_of, taken, with_named, moved
 use Rattle.sc_lexer.specs.Piece.{Piece, pieces, pieces_behind, token_pieces}
 use Rattle.sc_lexer.specs.Placed.{StandAt}
 use Rattle.sc_lexer.specs.Numbered.{with_pieces, name_of, format_of, names_of, formats_of, HasNumber, IsNumbered, definition_of, definitions_of, pieces_before, IsNameKind, IsKind, IsWhatItSays}
-use Rattle.sc_lexer.proofs.DistinctLaws.{all_added, all_added-distinct, number-there, number-kept, Begins, with_name-begins, begins-on}
+use Rattle.sc_tree.proofs.DistinctLaws.{all_added, all_added-distinct, number-there, number-kept, Begins, with_name-begins, begins-on}
 use Rattle.sc_lexer.proofs.PieceLaws.{Stands, start-stands, rest_there, element-there, next-stands, piece_of}
 
 abbrev with_maybe : Option Text → List Text → List Text

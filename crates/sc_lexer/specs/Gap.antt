@@ -7,7 +7,8 @@ use Rattle.sc_lexer.specs.Class.{is_blank, is_not_newline, begins_with}
 -- the place after the first `*/` in the bytes, the first of which is at this place
 abbrev pub comment_end : ℕ → List ℕ → Option ℕ
 comment_end place [] = None
-comment_end place (b ∷ bs) = if starts_with nat_eq (b ∷ bs) (codes "*/") then Some (place + 2) else comment_end (place + 1) bs
+comment_end place (b ∷ bs) =
+    if starts_with nat_eq (b ∷ bs) (codes "*/") then Some (place + 2) else comment_end (place + 1) bs
 
 -- the size of the blank or comment at the front, 0 where there is none, and None for a comment without an end
 abbrev pub gap_at : List ℕ → Option ℕ

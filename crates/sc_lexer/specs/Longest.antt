@@ -15,7 +15,9 @@ is_name bytes = begins_with is_name_start bytes && list_all is_name_byte bytes
 
 -- a digit other than 0, followed by digits
 abbrev pub is_decimal : List ℕ → Bool
-is_decimal bytes = (begins_with is_ascii_digit bytes && not (begins_with (λ b. b == 48) bytes)) && list_all is_ascii_digit bytes
+is_decimal bytes =
+    (begins_with is_ascii_digit bytes && not (begins_with (λ b. b == 48) bytes))
+    && list_all is_ascii_digit bytes
 
 -- `0x` or `0X`, followed by at least one hexadecimal digit
 abbrev pub is_hexadecimal : List ℕ → Bool

@@ -48,7 +48,8 @@ with_format s text = with_token (record s { texts = with_name text s.texts }) (k
 abbrev pub taken : State → List ℕ → Found → State
 taken s piece found.Gap = s
 taken s piece found.Include = s
-taken s piece (found.Define from size value) = record s { defined = s.defined ++ (take size (drop from piece), value) ∷ [] }
+taken s piece (found.Define from size value) =
+    record s { defined = s.defined ++ (take size (drop from piece), value) ∷ [] }
 taken s piece (found.Number value) = with_token s (kind.Number value)
 taken s piece found.Name = with_named s piece (defined_value piece s.defined)
 taken s piece found.Format = with_format s (format_text piece)
@@ -59,7 +60,8 @@ taken s piece (found.Mark mark) = with_token s (kind.Mark mark)
 abbrev pub IsTakeable : Definitions → List ℕ → Found → Type 0
 IsTakeable defined piece found.Gap = Unit {0}
 IsTakeable defined piece found.Include = Unit {0}
-IsTakeable defined piece (found.Define from size value) = (from + size ≤ length piece) × (defined_value (take size (drop from piece)) defined ≡ None)
+IsTakeable defined piece (found.Define from size value) =
+    (from + size ≤ length piece) × (defined_value (take size (drop from piece)) defined ≡ None)
 IsTakeable defined piece (found.Number value) = Unit {0}
 IsTakeable defined piece found.Name = Unit {0}
 IsTakeable defined piece found.Format = 2 ≤ length piece
@@ -73,7 +75,11 @@ is_fresh_after fresh (b ∷ bs) = is_fresh_after (is_newline b || (fresh && is_b
 
 -- the place after these bytes
 abbrev pub moved : State → List ℕ → State
-moved s piece = record s { at = s.at + length piece; line = s.line + count_by is_newline piece; fresh = is_fresh_after s.fresh piece }
+moved s piece = record s {
+  at = s.at + length piece;
+  line = s.line + count_by is_newline piece;
+  fresh = is_fresh_after s.fresh piece;
+}
 
 abbrev pub after : List ℕ → State → Element → State
 after text s e = let piece = take e.size (drop s.at text) in moved (taken s piece e.found) piece
@@ -143,4 +149,5 @@ IsLexed text lexed = (es : List Element) × (t : State) × Reaches text start es
 
 -- the text is such elements up to a place where it has no element that it may have, for this reason
 abbrev pub IsRefused : List ℕ → LexError → Type 0
-IsRefused text error = (es : List Element) × (t : State) × Reaches text start es t × (t.at < length text) × (element_of text t ≡ Err error)
+IsRefused text error = (es : List Element) × (t : State) × Reaches text start es t × (t.at < length text)
+    × (element_of text t ≡ Err error)

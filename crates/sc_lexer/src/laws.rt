@@ -43,7 +43,8 @@ pub fn refused_for_its_bytes()
 /// The tokens, directives, comments and blanks of a text, joined, are the text. None of them is empty.
 pub fn elements_are_the_text()
     ensures joined { (text : List ℕ) (a : Lexed) (is : IsLexed text a) → joined (pieces text is.0) ≡ text }
-    ensures some { (text : List ℕ) (a : Lexed) (is : IsLexed text a) → All (λ (p : Piece). 0 < length p.bytes) (pieces text is.0) }
+    ensures some { (text : List ℕ) (a : Lexed) (is : IsLexed text a) →
+        All (λ (p : Piece). 0 < length p.bytes) (pieces text is.0) }
 {}
 
 /// Each byte of a text belongs to exactly one element.
@@ -97,13 +98,16 @@ pub fn longest_elements()
 /// the first end behind its beginning. So comments do not nest.
 pub fn comments_end_first()
     ensures { (text : List ℕ) (a : Lexed) (is : IsLexed text a) →
-        All (λ (p : Piece). p.found ≡ found.Gap → IsGap (drop (length p.before) text) (length p.bytes)) (pieces text is.0) }
+        All (λ (p : Piece). p.found ≡ found.Gap → IsGap (drop (length p.before) text) (length p.bytes))
+        (pieces text is.0) }
 {}
 
 /// An open comment has no end behind its beginning.
 pub fn open_comments_have_no_end()
-    ensures begins { (text : List ℕ) (place : ℕ) → IsRefused text (OpenComment place) → starts_with nat_eq (drop place text) (codes "/*") ≡ true }
-    ensures no_end { (text : List ℕ) (place : ℕ) → IsRefused text (OpenComment place) → HasNoEnd (drop (place + 2) text) }
+    ensures begins { (text : List ℕ) (place : ℕ) → IsRefused text (OpenComment place) →
+        starts_with nat_eq (drop place text) (codes "/*") ≡ true }
+    ensures no_end { (text : List ℕ) (place : ℕ) → IsRefused text (OpenComment place) →
+        HasNoEnd (drop (place + 2) text) }
 {}
 
 /// Each format of a text is printable, and its text, written again with its escapes, is the format.
@@ -115,6 +119,7 @@ pub fn formats_written_again()
 /// A text that is written as a format is read as that format, whatever follows, and has that text.
 pub fn formats_read_back()
     ensures element { (fresh : Bool) (defined : Definitions) (text behind : List ℕ) → list_all is_writable text ≡ true →
-        element_at fresh defined (quoted_text text ++ behind) ≡ Ok (record { size = length (quoted_text text); found = found.Format }) }
+        element_at fresh defined (quoted_text text ++ behind) ≡
+        Ok (record { size = length (quoted_text text); found = found.Format }) }
     ensures text { (text : List ℕ) → list_all is_writable text ≡ true → format_text (quoted_text text) ≡ text }
 {}
