@@ -30,7 +30,8 @@ pub record IsGood (defined : Definitions) (bytes : List ℕ) (e : Element) : Typ
   pub takeable : IsTakeable defined (take e.size bytes) e.found
 
 abbrev pub IsWithin : List ℕ → Refused → Type 0
-IsWithin bytes (refused.BadByte offset) = offset ≤ length bytes
+IsWithin bytes refused.BadByte = Unit {0}
+IsWithin bytes (refused.BadToken offset) = offset ≤ length bytes
 IsWithin bytes refused.OpenComment = Unit {0}
 IsWithin bytes refused.WideNumber = Unit {0}
 IsWithin bytes refused.BadDirective = Unit {0}
@@ -48,11 +49,11 @@ named-takeable : (defined : Definitions) (piece : List ℕ) (o : Option Word) �
 named-takeable defined piece None = tt
 named-takeable defined piece (Some w) = tt
 
-prefix-positive : (p : ℕ → Bool) (bytes : List ℕ) → begins_with p bytes ≡ true → 0 < prefix_len p bytes
+pub prefix-positive : (p : ℕ → Bool) (bytes : List ℕ) → begins_with p bytes ≡ true → 0 < prefix_len p bytes
 prefix-positive p [] e = absurd (false≢true e)
 prefix-positive p (b ∷ bs) e = rw e (omega arith)
 
-begins-name : (bytes : List ℕ) → begins_with is_name_start bytes ≡ true → begins_with is_name_byte bytes ≡ true
+pub begins-name : (bytes : List ℕ) → begins_with is_name_start bytes ≡ true → begins_with is_name_byte bytes ≡ true
 begins-name [] e = e
 begins-name (b ∷ bs) e = name_byte-start b e
 
@@ -103,7 +104,7 @@ numeral_at-fair defined bytes e =
 
 abbrev IsEnd : ℕ → List ℕ → Result ℕ Refused → Type 0
 IsEnd place bytes (Ok n) = (place < n) × (n ≤ place + length bytes)
-IsEnd place bytes (Err r) = (offset : ℕ) × (r ≡ refused.BadByte offset) × (offset ≤ place + length bytes)
+IsEnd place bytes (Err r) = (offset : ℕ) × (r ≡ refused.BadToken offset) × (offset ≤ place + length bytes)
 
 IsEnd-more : (place b : ℕ) (bs : List ℕ) (r : Result ℕ Refused) → IsEnd (place + 1) bs r → IsEnd place (b ∷ bs) r
 IsEnd-more place b bs (Ok n) h = (omega (arith, h.0), omega (arith, h.1))
@@ -139,7 +140,7 @@ format_at-fair defined (b ∷ bs) h = quoted-fair defined b bs (format_end false
 
 -- ---- marks
 
-mark_text-positive : (m : Mark) → 0 < length (mark_text m)
+pub mark_text-positive : (m : Mark) → 0 < length (mark_text m)
 mark_text-positive mark.ShiftLeftEqual = lit< tt
 mark_text-positive mark.ShiftRightEqual = lit< tt
 mark_text-positive mark.ColonColon = lit< tt
@@ -193,17 +194,17 @@ starts_with-length [] (n ∷ ns) e = absurd (false≢true e)
 starts_with-length (x ∷ xs) (n ∷ ns) e =
     let shorter : length ns ≤ length xs = starts_with-length xs ns (and_parts _ _ e).1 in omega arith
 
-find-passes : (p : Mark → Bool) (ms : List Mark) (m : Mark) → find p ms ≡ Some m → p m ≡ true
+pub find-passes : {X : Type 0} (p : X → Bool) (ms : List X) (m : X) → find p ms ≡ Some m → p m ≡ true
 find-passes p [] m e = cc
-find-passes p (x ∷ xs) m e = first-or p x (find p xs) m (p x) refl e (find-passes p xs m)
+find-passes {X} p (x ∷ xs) m e = first-or p x (find p xs) m (p x) refl e (find-passes p xs m)
   where
-    first-or : (p : Mark → Bool) (x : Mark) (o : Option Mark) (m : Mark) (b : Bool) → b ≡ p x → cond b (Some x) o ≡ Some m → (o ≡ Some m → p m ≡ true) → p m ≡ true
+    first-or : (p : X → Bool) (x : X) (o : Option X) (m : X) (b : Bool) → b ≡ p x → cond b (Some x) o ≡ Some m → (o ≡ Some m → p m ≡ true) → p m ≡ true
     first-or p x o m true e f g = let same : x ≡ m = cc in ap p (sym same) ∙ sym e
     first-or p x o m false e f g = g f
 
 marked-fair : (defined : Definitions) (bytes : List ℕ) → 0 < length bytes → (o : Option Mark) → mark_of bytes ≡ o → IsFair defined bytes (marked o)
 unfolding mark_of
-marked-fair defined bytes h None e = omega arith
+marked-fair defined bytes h None e = tt
 marked-fair defined bytes h (Some m) e = record {
   positive = mark_text-positive m;
   within = starts_with-length bytes (mark_text m) (find-passes (λ x. starts_with nat_eq bytes (mark_text x)) marks m e);
@@ -281,7 +282,7 @@ unfolding solid_at mark_at
 solid_at-fair fresh defined bytes h =
     let P : Result Element Refused → Type 0 = IsFair defined bytes in
     cond_both (begins_with (λ b. b == 35) bytes) _ _ P
-    (λ hash. cond_both fresh _ _ P (λ _. directive_at-fair defined bytes _ (line-cut bytes (hash-begins bytes hash))) (λ _. omega arith))
+    (λ hash. cond_both fresh _ _ P (λ _. directive_at-fair defined bytes _ (line-cut bytes (hash-begins bytes hash))) (λ _. tt))
     (λ _. cond_both (begins_with is_name_start bytes) _ _ P
     (λ name. name_at-good defined bytes name)
     (λ _. cond_both (begins_with is_ascii_digit bytes) _ _ P

@@ -1,9 +1,15 @@
-pub mod FormatLaws
 pub mod DefinedLaws
 pub mod ElementLaws
+pub mod FormatLaws
 pub mod LongestLaws
+pub mod LongestMatch
 pub mod NumberLaws
-pub mod StepLaws
+pub mod NumberedLaws
+pub mod PieceLaws
+pub mod PlaceLaws
 pub mod Reasons
+pub mod SaysLaws
+pub mod StepLaws
 pub mod TextLaws
 pub mod Walks
+pub mod WholeLaws

@@ -7,7 +7,7 @@ use Rattle.std.proofs.lemmas.Bool.{and_parts, leb-true, cases_Bool}
 use Rattle.sc_tree.specs.declared.token.Mark.{Mark}
 use Rattle.sc_tree.specs.declared.token.Mark.TheVariants as mark
 use Rattle.sc_lexer.specs.Spelling.{mark_text, marks, mark_of}
-use Rattle.sc_lexer.specs.Gap.{comment_end, IsFirstEnd, EndsAt}
+use Rattle.sc_lexer.specs.Gap.{comment_end, IsFirstEnd, EndsAt, HasNoEnd}
 
 -- ---- marks
 
@@ -64,7 +64,7 @@ first-longest p k (x ∷ xs) i m n e f at fits = ⊎_elim
     rest-longest p x xs zero m n e f at fits fails go = let same : p x ≡ p n = ap p (same_mark x n at) in absurd (fits_not (p x) (p n) fails fits same)
     rest-longest p x xs (suc j) m n e f at fits fails go = go j at
 
-place-of : Mark → ℕ
+pub place-of : Mark → ℕ
 place-of mark.ShiftLeftEqual = 0
 place-of mark.ShiftRightEqual = 1
 place-of mark.ColonColon = 2
@@ -112,7 +112,7 @@ place-of mark.Not = 43
 place-of mark.Less = 44
 place-of mark.Greater = 45
 
-is-placed : (m : Mark) → slice_get marks (place-of m) ≡ Some m
+pub is-placed : (m : Mark) → slice_get marks (place-of m) ≡ Some m
 unfolding place-of
 is-placed mark.ShiftLeftEqual = refl
 is-placed mark.ShiftRightEqual = refl
@@ -188,3 +188,22 @@ comment_end-first place [] e found = absurd (none_some e found)
     none_some : (e : ℕ) → ◌≡◌ {A = Option ℕ} None (Some e) → ⊥
     none_some e f = cc
 comment_end-first place (b ∷ bs) e found = end-cases (starts_with nat_eq (b ∷ bs) (codes "*/")) place b bs (comment_end (place + 1) bs) e refl found (comment_end-first (place + 1) bs e)
+
+-- where no end is found there is none
+no-end-cons : (b : ℕ) (bs : List ℕ) → starts_with nat_eq (b ∷ bs) (codes "*/") ≡ false → HasNoEnd bs → HasNoEnd (b ∷ bs)
+no-end-cons b bs is rest zero = is
+no-end-cons b bs is rest (suc k) = rest k
+
+no-end-cases : (s : Bool) (place : ℕ) (o : Option ℕ) → cond s (Some place) o ≡ None → (s ≡ false) × (o ≡ None)
+no-end-cases true place o e = cc
+no-end-cases false place o e = (refl, e)
+
+no-end-nil : (k : ℕ) → starts_with nat_eq (drop k []) (codes "*/") ≡ false
+no-end-nil zero = refl
+no-end-nil (suc k) = refl
+
+pub comment_end-none : (place : ℕ) (bytes : List ℕ) → comment_end place bytes ≡ None → HasNoEnd bytes
+comment_end-none place [] e = no-end-nil
+comment_end-none place (b ∷ bs) e =
+    let both = no-end-cases (starts_with nat_eq (b ∷ bs) (codes "*/")) (place + 2) (comment_end (place + 1) bs) e in
+    no-end-cons b bs both.0 (comment_end-none (place + 1) bs both.1)

@@ -9,7 +9,8 @@ use Rattle.sc_lexer.specs.declared.element.Element.{Element}
 use Rattle.sc_lexer.specs.Text.{State, named_at, counted, is_token, is_full, begins_token, IsRefused}
 
 named : (s : State) (r : Refused) → named_at s r ≡ errors.OutOfMemory → ⊥
-named s (refused.BadByte offset) h = cc
+named s refused.BadByte h = cc
+named s (refused.BadToken offset) h = cc
 named s refused.OpenComment h = cc
 named s refused.WideNumber h = cc
 named s refused.BadDirective h = cc

@@ -3,6 +3,7 @@ use Rattle.std.proofs.Common.{◌≡◌, ℕ, ◌+◌, ◌-◌, ◌^◌, ◌<◌
 use Rattle.std.specs.Prelude.{ℤ, Option, Some, None, ◌&&◌, nat_le, count_by}
 use Rattle.std.proofs.lemmas.List.{length_push}
 use Rattle.std.proofs.lemmas.List.Sums.{count_by-le-length}
+use Rattle.sc_base.specs.declared.limits.TheConstants.{LIMITS}
 use Rattle.sc_tree.specs.Names.{Text}
 use Rattle.sc_lexer.specs.declared.refusal.Refused.{Refused}
 use Rattle.sc_lexer.specs.declared.refusal.Refused.TheVariants as refused
@@ -50,11 +51,11 @@ taken-tokens s piece (found.Mark mark) = length_push s.tokens _
 pub record IsInBounds (text : List ℕ) (s : State) : Type 0 where
   pub within : s.at ≤ length text
   pub line : s.line ≤ s.at + 1
-  pub tokens : length s.tokens ≤ 65536
+  pub tokens : length s.tokens ≤ LIMITS.tokens
 
-room-left : (b : Bool) (n : ℕ) → (b && nat_le 65536 n) ≡ false → n ≤ 65536 → n + cond {A = ℕ} b 1 0 ≤ 65536
+room-left : (b : Bool) (n : ℕ) → (b && nat_le LIMITS.tokens n) ≡ false → n ≤ LIMITS.tokens → n + cond {A = ℕ} b 1 0 ≤ LIMITS.tokens
 room-left false n e h = omega arith
-room-left true n e h = let below = leb-false 65536 n e in omega arith
+room-left true n e h = let below = leb-false LIMITS.tokens n e in omega arith
 
 when-room : (b c : Bool) (d e : Element) → ◌≡◌ {A = Result Element LexError} (cond b (Err errors.TooManyTokens) (Ok d)) (Ok e) → (d ≡ e → b ≡ c) → c ≡ false
 when-room true c d e g h = cc
@@ -92,7 +93,8 @@ Steps-reach text s t within reached step =
 
 -- a bad place of a text that is not too long has a number of 32 bits
 within-near : (s : State) (rest : List ℕ) (r : Refused) → s.at + length rest < 2 ^ 32 → IsWithin rest r → IsNear s r
-within-near s rest (refused.BadByte offset) near within = omega arith
+within-near s rest refused.BadByte near within = tt
+within-near s rest (refused.BadToken offset) near within = omega arith
 within-near s rest refused.OpenComment near within = tt
 within-near s rest refused.WideNumber near within = tt
 within-near s rest refused.BadDirective near within = tt

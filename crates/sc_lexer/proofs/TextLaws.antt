@@ -61,7 +61,7 @@ unless-full : (b : Bool) (d e : Element) → ◌≡◌ {A = Result Element LexEr
 unless-full true d e g = cc
 unless-full false d e g = cc
 
-counted-cases : (s : State) (r : Result Element Refused) (e : Element) → counted s r ≡ Ok e → r ≡ Ok e
+pub counted-cases : (s : State) (r : Result Element Refused) (e : Element) → counted s r ≡ Ok e → r ≡ Ok e
 counted-cases s (Err x) e f = cc
 counted-cases s (Ok d) e f = let same : d ≡ e = unless-full (is_token d.found && is_full s) d e f in cc
 

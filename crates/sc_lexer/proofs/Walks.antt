@@ -3,7 +3,7 @@ use Rattle.std.proofs.Common.{◌≡◌, ℕ, ◌+◌, ◌-◌, ◌<◌, ◌≤�
 use Rattle.std.specs.Prelude.{Err, ◌==◌, codes, nat_eq, unwrap_or}
 use Rattle.std.specs.List.{starts_with}
 use Rattle.std.proofs.lemmas.List.{at_drop_more, at_drop_all, drop_more}
-use Rattle.sc_lexer.specs.declared.refusal.Refused.TheVariants.{BadByte}
+use Rattle.sc_lexer.specs.declared.refusal.Refused.TheVariants.{BadToken}
 use Rattle.sc_lexer.specs.Format.{format_end, unescaped}
 use Rattle.sc_lexer.specs.Gap.{gap_at, comment_end, only_gaps}
 
@@ -37,11 +37,11 @@ pub only_gaps-turn : (turns more : ℕ) (bytes : List ℕ) → more ≡ suc turn
 only_gaps-turn turns more bytes e = ap (λ n. only_gaps n bytes) e
 
 -- a text that ends within a format
-pub format_end-cut : (bytes : List ℕ) (i : ℕ) → i ≡ length bytes → format_end false i (drop i bytes) ≡ Err (BadByte (length bytes))
-format_end-cut bytes i e = format_end-all false bytes i (omega arith) ∙ ap (λ n. Err (BadByte n)) e
+pub format_end-cut : (bytes : List ℕ) (i : ℕ) → i ≡ length bytes → format_end false i (drop i bytes) ≡ Err (BadToken (length bytes))
+format_end-cut bytes i e = format_end-all false bytes i (omega arith) ∙ ap (λ n. Err (BadToken n)) e
 
-pub format_end-cut_escape : (bytes : List ℕ) (i : ℕ) → i ≡ length bytes → format_end true i (drop i bytes) ≡ Err (BadByte (length bytes - 1))
-format_end-cut_escape bytes i e = format_end-all true bytes i (omega arith) ∙ ap (λ n. Err (BadByte (n - 1))) e
+pub format_end-cut_escape : (bytes : List ℕ) (i : ℕ) → i ≡ length bytes → format_end true i (drop i bytes) ≡ Err (BadToken (length bytes - 1))
+format_end-cut_escape bytes i e = format_end-all true bytes i (omega arith) ∙ ap (λ n. Err (BadToken (n - 1))) e
 
 pub comment_end-skip : (bytes : List ℕ) (i : ℕ) → i < length bytes → starts_with nat_eq (drop i bytes) (codes "*/") ≡ false → comment_end i (drop i bytes) ≡ comment_end (i + 1) (drop (i + 1) bytes)
 comment_end-skip bytes i h e = comment_end-drop bytes i 0 h ∙ rw e refl

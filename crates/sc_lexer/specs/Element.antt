@@ -26,7 +26,9 @@ named None = found.Name
 named (Some word) = found.Word word
 
 unfoldable pub name_at : List ℕ → Element
-name_at bytes = let size = prefix_len is_name_byte bytes in record { size = size; found = named (word_of (take size bytes)) }
+name_at bytes =
+    let size = prefix_len is_name_byte bytes in
+    record { size = size; found = named (word_of (take size bytes)) }
 
 abbrev pub numbered : Result Numeral Refused → Result Element Refused
 numbered (Ok numeral) = Ok (record { size = numeral.size; found = found.Number numeral.value })
@@ -44,7 +46,7 @@ format_at bytes = quoted (format_end false 1 (drop 1 bytes))
 
 abbrev pub marked : Option Mark → Result Element Refused
 marked (Some mark) = Ok (record { size = length (mark_text mark); found = found.Mark mark })
-marked None = Err (BadByte 0)
+marked None = Err BadByte
 
 unfoldable pub mark_at : List ℕ → Result Element Refused
 mark_at bytes = marked (mark_of bytes)
@@ -58,11 +60,14 @@ ends_line line from size number (Ok numeral) =
 ends_line line from size number (Err refused) = Err BadDirective
 
 unfoldable pub defined_as : ℕ → ℕ → ℕ → List ℕ → Result Element Refused
-defined_as line from size number = if begins_with is_ascii_digit number then ends_line line from size number (number_at number) else Err BadDirective
+defined_as line from size number =
+    if begins_with is_ascii_digit number then ends_line line from size number (number_at number)
+    else Err BadDirective
 
 -- whether a directive may define the name: it is one, no reserved word, and not defined yet
 unfoldable pub can_define : Definitions → Text → Bool
-can_define defined name = (begins_with is_name_start name && is_none (word_of name)) && is_none (defined_value name defined)
+can_define defined name =
+    (begins_with is_name_start name && is_none (word_of name)) && is_none (defined_value name defined)
 
 -- the definition on the line, from the place after the word `define` on: blanks, a name, blanks, and a number
 unfoldable pub definition_at : Definitions → List ℕ → ℕ → Result Element Refused
@@ -78,7 +83,8 @@ definition_at defined line place =
 unfoldable pub directive_at : Definitions → List ℕ → Result Element Refused
 directive_at defined line =
     let place = 1 + prefix_len is_blank (drop 1 line) in
-    if starts_with nat_eq (drop place line) (codes "include") then Ok (record { size = length line; found = found.Include })
+    if starts_with nat_eq (drop place line) (codes "include")
+    then Ok (record { size = length line; found = found.Include })
     else (if starts_with nat_eq (drop place line) (codes "define") then definition_at defined line (place + 6)
     else Err BadDirective)
 
@@ -86,7 +92,8 @@ directive_at defined line =
 -- before it on its line
 unfoldable pub solid_at : Bool → Definitions → List ℕ → Result Element Refused
 solid_at fresh defined bytes =
-    if begins_with (λ b. b == 35) bytes then (if fresh then directive_at defined (take (prefix_len is_not_newline bytes) bytes) else Err (BadByte 0))
+    if begins_with (λ b. b == 35) bytes
+    then (if fresh then directive_at defined (take (prefix_len is_not_newline bytes) bytes) else Err BadByte)
     else (if begins_with is_name_start bytes then Ok (name_at bytes)
     else (if begins_with is_ascii_digit bytes then numeral_at bytes
     else (if begins_with (λ b. b == 34) bytes then format_at bytes

@@ -3,6 +3,10 @@ pub mod Defined
 pub mod Element
 pub mod Format
 pub mod Gap
+pub mod Longest
 pub mod Number
+pub mod Numbered
+pub mod Piece
+pub mod Placed
 pub mod Spelling
 pub mod Text

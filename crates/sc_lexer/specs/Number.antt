@@ -5,7 +5,7 @@ use Rattle.std.specs.List.{prefix_len, starts_with}
 use Rattle.std.specs.Char.{digit_value, is_ascii_digit, is_ascii_hexdigit}
 use Rattle.sc_lexer.specs.declared.number.Numeral.{Numeral}
 use Rattle.sc_lexer.specs.declared.refusal.Refused.{Refused}
-use Rattle.sc_lexer.specs.declared.refusal.Refused.TheVariants.{BadByte, WideNumber}
+use Rattle.sc_lexer.specs.declared.refusal.Refused.TheVariants.{BadToken, WideNumber}
 use Rattle.sc_lexer.specs.Class.{begins_with, is_name_byte}
 
 -- what digits stand for
@@ -33,6 +33,6 @@ numeral_value bytes =
 unfoldable pub number_at : List ℕ → Result Numeral Refused
 number_at bytes =
     if nat_lt (numeral_value bytes) (2 ^ 63)
-    then (if begins_with is_name_byte (drop (numeral_size bytes) bytes) then Err (BadByte (numeral_size bytes))
+    then (if begins_with is_name_byte (drop (numeral_size bytes) bytes) then Err (BadToken (numeral_size bytes))
     else Ok (record { size = numeral_size bytes; value = pos (numeral_value bytes) }))
     else Err WideNumber

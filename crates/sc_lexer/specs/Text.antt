@@ -1,6 +1,7 @@
 -- A whole text as its elements one after another, and the first place where there is none. This follows the
 -- translation phases of C (ISO/IEC 9899), which take the longest element at each place from the left.
-use Rattle.std.specs.Prelude.{◌≡◌, ℕ, ◌+◌, ◌-◌, ◌<◌, ◌≤◌, ◌^◌, ℤ, Bool, true, false, ◌&&◌, ◌||◌, List, [], ◌∷◌, ◌++◌, Option, Some, None, Result, Ok, Err, if◌then◌else◌, nat_le, nat_lt, take, drop, length, count_by}
+use Rattle.std.specs.Prelude.{◌≡◌, ℕ, ◌+◌, ◌<◌, ◌≤◌, ◌^◌, ℤ, Bool, true, false, ◌&&◌, ◌||◌, List, [], ◌∷◌, ◌++◌, Option, Some, None, Result, Ok, Err, if◌then◌else◌, nat_le, take, drop, length, count_by}
+use Rattle.sc_base.specs.declared.limits.TheConstants.{LIMITS}
 use Rattle.sc_tree.specs.Names.{Text, number_of, with_name}
 use Rattle.sc_tree.specs.declared.token.Token.{Token}
 use Rattle.sc_tree.specs.declared.token.TokenKind.{TokenKind}
@@ -14,7 +15,7 @@ use Rattle.sc_lexer.specs.declared.element.Element.{Element}
 use Rattle.sc_lexer.specs.declared.element.Found.{Found}
 use Rattle.sc_lexer.specs.declared.element.Found.TheVariants as found
 use Rattle.sc_lexer.specs.Class.{is_blank, is_newline}
-use Rattle.sc_lexer.specs.Format.{unescaped}
+use Rattle.sc_lexer.specs.Format.{format_text}
 use Rattle.sc_lexer.specs.Defined.{Definitions, defined_value}
 use Rattle.sc_lexer.specs.Element.{element_at}
 
@@ -47,10 +48,11 @@ with_format s text = with_token (record s { texts = with_name text s.texts }) (k
 abbrev pub taken : State → List ℕ → Found → State
 taken s piece found.Gap = s
 taken s piece found.Include = s
-taken s piece (found.Define from size value) = record s { defined = s.defined ++ (take size (drop from piece), value) ∷ [] }
+taken s piece (found.Define from size value) =
+    record s { defined = s.defined ++ (take size (drop from piece), value) ∷ [] }
 taken s piece (found.Number value) = with_token s (kind.Number value)
 taken s piece found.Name = with_named s piece (defined_value piece s.defined)
-taken s piece found.Format = with_format s (unescaped false (take (length piece - 2) (drop 1 piece)))
+taken s piece found.Format = with_format s (format_text piece)
 taken s piece (found.Word word) = with_token s (kind.Word word)
 taken s piece (found.Mark mark) = with_token s (kind.Mark mark)
 
@@ -58,7 +60,8 @@ taken s piece (found.Mark mark) = with_token s (kind.Mark mark)
 abbrev pub IsTakeable : Definitions → List ℕ → Found → Type 0
 IsTakeable defined piece found.Gap = Unit {0}
 IsTakeable defined piece found.Include = Unit {0}
-IsTakeable defined piece (found.Define from size value) = (from + size ≤ length piece) × (defined_value (take size (drop from piece)) defined ≡ None)
+IsTakeable defined piece (found.Define from size value) =
+    (from + size ≤ length piece) × (defined_value (take size (drop from piece)) defined ≡ None)
 IsTakeable defined piece (found.Number value) = Unit {0}
 IsTakeable defined piece found.Name = Unit {0}
 IsTakeable defined piece found.Format = 2 ≤ length piece
@@ -68,16 +71,20 @@ IsTakeable defined piece (found.Mark mark) = Unit {0}
 -- whether only blanks stand on the line before what follows these bytes
 abbrev pub is_fresh_after : Bool → List ℕ → Bool
 is_fresh_after fresh [] = fresh
-is_fresh_after fresh (b ∷ bs) = is_newline b || (fresh && is_blank b)
+is_fresh_after fresh (b ∷ bs) = is_fresh_after (is_newline b || (fresh && is_blank b)) bs
 
 -- the place after these bytes
 abbrev pub moved : State → List ℕ → State
-moved s piece = record s { at = s.at + length piece; line = s.line + count_by is_newline piece; fresh = is_fresh_after s.fresh piece }
+moved s piece = record s {
+  at = s.at + length piece;
+  line = s.line + count_by is_newline piece;
+  fresh = is_fresh_after s.fresh piece;
+}
 
 abbrev pub after : List ℕ → State → Element → State
 after text s e = let piece = take e.size (drop s.at text) in moved (taken s piece e.found) piece
 
--- which elements are tokens; and a token has begun where a later byte is bad
+-- which elements are tokens; and a token has begun where a later byte of it is bad, but for a wide number
 abbrev pub is_token : Found → Bool
 is_token found.Gap = false
 is_token found.Include = false
@@ -89,31 +96,31 @@ is_token (found.Word word) = true
 is_token (found.Mark mark) = true
 
 abbrev pub begins_token : Refused → Bool
-begins_token (refused.BadByte offset) = nat_lt 0 offset
+begins_token refused.BadByte = false
+begins_token (refused.BadToken offset) = true
 begins_token refused.OpenComment = false
 begins_token refused.WideNumber = false
 begins_token refused.BadDirective = false
 
 -- the name of a bad place
 abbrev pub named_at : State → Refused → LexError
-named_at s (refused.BadByte offset) = errors.BadByte (s.at + offset)
+named_at s refused.BadByte = errors.BadByte s.at
+named_at s (refused.BadToken offset) = errors.BadByte (s.at + offset)
 named_at s refused.OpenComment = errors.OpenComment s.at
 named_at s refused.WideNumber = errors.WideNumber s.at
 named_at s refused.BadDirective = errors.BadDirective s.line
 
 -- a bad place that has a number of 32 bits
 abbrev pub IsNear : State → Refused → Type 0
-IsNear s (refused.BadByte offset) = s.at + offset < 2 ^ 32
+IsNear s refused.BadByte = Unit {0}
+IsNear s (refused.BadToken offset) = s.at + offset < 2 ^ 32
 IsNear s refused.OpenComment = Unit {0}
 IsNear s refused.WideNumber = Unit {0}
 IsNear s refused.BadDirective = Unit {0}
 
--- how many tokens a text may have
-abbrev pub most_tokens : ℕ
-most_tokens = 65536
-
+-- whether the text has as many tokens already as it may have
 abbrev pub is_full : State → Bool
-is_full s = nat_le most_tokens (length s.tokens)
+is_full s = nat_le LIMITS.tokens (length s.tokens)
 
 -- the element, unless it is one token too many; or the refusal
 abbrev pub counted : State → Result Element Refused → Result Element LexError
@@ -142,4 +149,5 @@ IsLexed text lexed = (es : List Element) × (t : State) × Reaches text start es
 
 -- the text is such elements up to a place where it has no element that it may have, for this reason
 abbrev pub IsRefused : List ℕ → LexError → Type 0
-IsRefused text error = (es : List Element) × (t : State) × Reaches text start es t × (t.at < length text) × (element_of text t ≡ Err error)
+IsRefused text error = (es : List Element) × (t : State) × Reaches text start es t × (t.at < length text)
+    × (element_of text t ≡ Err error)

@@ -66,7 +66,7 @@ fn solid_at(bytes: &[u8], fresh: bool, defined: &Defined) -> Result<Element, Ref
         if fresh {
             directive_at(&bytes[..line_bytes(bytes)], defined)
         } else {
-            Err(Refused::BadByte(0))
+            Err(Refused::BadByte)
         }
     } else if begins_name(bytes) {
         Ok(name_at(bytes))
@@ -131,7 +131,7 @@ fn mark_at(bytes: &[u8]) -> Result<Element, Refused>
             size: mark_text(mark).len(),
             found: Found::Mark(mark),
         }),
-        None => Err(Refused::BadByte(0)),
+        None => Err(Refused::BadByte),
     }
 }
 

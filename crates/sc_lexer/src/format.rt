@@ -18,7 +18,7 @@ pub fn format_size(bytes: &[u8]) -> Result<usize, Refused>
         let byte = bytes[i];
         if escaped {
             if !is_escape(byte) {
-                return Err(Refused::BadByte(i - 1));
+                return Err(Refused::BadToken(i - 1));
             }
             escaped = false;
         } else if byte == b'"' {
@@ -26,10 +26,10 @@ pub fn format_size(bytes: &[u8]) -> Result<usize, Refused>
         } else if byte == b'\\' {
             escaped = true;
         } else if !is_plain(byte) {
-            return Err(Refused::BadByte(i));
+            return Err(Refused::BadToken(i));
         }
     }
-    Err(Refused::BadByte(if escaped {
+    Err(Refused::BadToken(if escaped {
         bytes.len() - 1
     } else {
         bytes.len()

@@ -25,7 +25,7 @@ pub fn number_at(bytes: &[u8]) -> Result<Numeral, Refused>
         return Err(Refused::WideNumber);
     };
     if goes_on(&bytes[size..]) {
-        return Err(Refused::BadByte(size));
+        return Err(Refused::BadToken(size));
     }
     Ok(Numeral { size, value })
 }

@@ -2,10 +2,13 @@
 
 use sc_base::OutOfMemory;
 
-/// Why no element of the text begins at a place. The place of a bad byte is counted from there.
+/// Why the text has no whole element at a place.
 #[derive(Clone, Copy, Debug, PartialEq, Eq)]
 pub enum Refused {
-    BadByte(usize),
+    /// No element begins with the byte at the place.
+    BadByte,
+    /// A token begins at the place, and the byte so far behind its first fits no such token.
+    BadToken(usize),
     OpenComment,
     WideNumber,
     BadDirective,

@@ -158,7 +158,8 @@ impl Scan {
         ensures { result ≡ named_at self.now refused }
     {
         match refused {
-            Refused::BadByte(offset) => LexError::BadByte {
+            Refused::BadByte => LexError::BadByte { at: self.at },
+            Refused::BadToken(offset) => LexError::BadByte {
                 at: self.at + offset as u32,
             },
             Refused::OpenComment => LexError::OpenComment { at: self.at },
@@ -194,10 +195,11 @@ impl Scan {
 fn is_fresh_after(fresh: bool, piece: &[u8]) -> bool
     ensures { result ≡ is_fresh_after fresh piece.now }
 {
-    match piece {
-        [] => fresh,
-        [first, ..] => *first == b'\n' || (fresh && is_blank(*first)),
+    let mut only_blanks = fresh;
+    for byte in piece {
+        only_blanks = *byte == b'\n' || (only_blanks && is_blank(*byte));
     }
+    only_blanks
 }
 
 /// Whether the element is a token.
@@ -210,12 +212,13 @@ fn is_token(found: Found) -> bool
     }
 }
 
-/// Whether a token begins at the place, though it is not whole.
+/// Whether a token begins at the place and is not whole. A wide number is no token.
 fn begins_token(refused: Refused) -> bool
     ensures { result ≡ begins_token refused }
 {
     match refused {
-        Refused::BadByte(offset) => offset > 0,
-        Refused::OpenComment | Refused::WideNumber | Refused::BadDirective => false,
+        Refused::BadToken(_) => true,
+        Refused::BadByte | Refused::OpenComment | Refused::WideNumber | Refused::BadDirective =>
+            false,
     }
 }

@@ -1,12 +1,13 @@
 //! Tables of sources with what they are read as.
 
 use crate::{LexError, lex};
+use sc_base::LIMITS;
 use sc_tree::{Lexed, Mark, Token, TokenKind, Word};
 use std::test::Fail;
 
 /// What the text is read as. No text of these tests is longer than a source may be.
 fn read(rt: &HostRuntime, text: &[u8]) -> Result<Lexed, LexError> {
-    if text.len() > 262144 {
+    if text.len() as u64 > LIMITS.source {
         return Err(LexError::OutOfMemory);
     }
     lex(rt.alloc(), text)

@@ -22,12 +22,14 @@ pub fn begins_expression(kind: TokenKind) -> bool
     }
 }
 
+/// Whether an expression may begin with this word.
 pub fn begins_word(word: Word) -> bool
     ensures { result ≡ reading.begins_word word }
 {
     matches!(word, Word::Null | Word::MyProc | Word::Procs | Word::Sizeof)
 }
 
+/// Whether an expression may begin with this mark: it opens a parenthesis or is a prefix operator.
 pub fn begins_mark(mark: Mark) -> bool
     ensures { result ≡ reading.begins_mark mark }
 {

@@ -53,6 +53,7 @@ impl Reader<'_> {
         }
     }
 
+    /// Whether the next token is this mark.
     pub fn next_is_mark(&self, mark: Mark) -> bool
         ensures { result ≡ sees (is_mark mark) (slice_get self.now.tokens.now self.now.next) }
     {
@@ -62,6 +63,7 @@ impl Reader<'_> {
         }
     }
 
+    /// Whether the next token is this word.
     pub fn next_is_word(&self, word: Word) -> bool
         ensures { result ≡ sees (is_word word) (slice_get self.now.tokens.now self.now.next) }
     {
@@ -78,6 +80,7 @@ impl Reader<'_> {
         self.kind().is_some() && !self.next_is_mark(mark)
     }
 
+    /// Whether the next token is a prefix operator.
     pub fn next_is_prefix(&self) -> bool
         ensures { result ≡ sees is_prefix (slice_get self.now.tokens.now self.now.next) }
     {

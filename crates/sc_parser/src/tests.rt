@@ -4,6 +4,7 @@ mod show;
 mod spell;
 
 use crate::{ParseError, parse};
+use sc_base::LIMITS;
 use sc_tree::{Token, Tree};
 use show::{show_body, show_items, show_tree};
 use spell::spell;
@@ -11,7 +12,7 @@ use std::test::Fail;
 
 /// What the tokens are read as. No test has more of them than a source may have.
 fn read(rt: &HostRuntime, tokens: &[Token]) -> Result<Tree, ParseError> {
-    if tokens.len() > 65536 {
+    if tokens.len() as u64 > LIMITS.tokens {
         return Err(ParseError::OutOfMemory);
     }
     parse(rt.alloc(), tokens)

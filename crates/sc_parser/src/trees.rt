@@ -59,6 +59,7 @@ pub fn prefixed(alloc: Global, prefix: Prefix, operand: Expr) -> Result<ExprKind
     })
 }
 
+/// The assignment, a compound one where it has an operator.
 pub fn assignment(
     alloc: Global,
     op: Option<Binary>,
@@ -72,6 +73,7 @@ pub fn assignment(
     Ok(ExprKind::Assign { op, left, right })
 }
 
+/// The cast of the operand to int with these stars.
 pub fn cast(alloc: Global, stars: Stars, operand: Expr) -> Result<ExprKind, AllocError>
     ensures { IfOk result (λ kind. plain_kind kind ≡ plain.cast stars (plain operand)) }
 {

@@ -1,3 +1,4 @@
+pub mod DistinctLaws
 pub mod ViewLaws
 pub mod ViewStmtLaws
 pub mod ViewTypedLaws

@@ -24,12 +24,14 @@ impl Model for Tokens {
 }
 
 impl Tokens {
+    /// The tokens of the vector, in its order.
     pub fn from_vec(tokens: Vec<Token>) -> Tokens
         ensures { result ≡ tokens.items }
     {
         Tokens { tokens }
     }
 
+    /// The tokens in the order of the source.
     pub fn as_slice(&self) -> &[Token]
         ensures { result.now ≡ self.now }
     {
@@ -53,12 +55,14 @@ impl Model for Texts {
 }
 
 impl Texts {
+    /// The texts of the vector, in its order.
     pub fn from_vec(texts: Vec<Bytes>) -> Texts
         ensures { result ≡ texts.items }
     {
         Texts { texts }
     }
 
+    /// The texts in the order of their numbers.
     pub fn as_slice(&self) -> &[Bytes]
         ensures { result.now ≡ self.now }
     {
