@@ -27,6 +27,7 @@ pub struct SeedPicks {
 }
 
 impl SeedPicks {
+    /// The choices of the seed, from their beginning.
     pub fn new(seed: u64) -> SeedPicks
         ensures { (k : ℕ) → ⟦<SeedPicks as Picks>⟧.words result k ≡ seed_word seed k }
     {
@@ -51,6 +52,7 @@ pub struct ListPicks {
 }
 
 impl ListPicks {
+    /// The choices that the list has, from its beginning.
     pub fn new(list: Vec<u32>) -> ListPicks
         ensures { (k : ℕ) → ⟦<ListPicks as Picks>⟧.words result k ≡ slice_index list.items k }
     {

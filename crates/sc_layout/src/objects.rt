@@ -52,12 +52,14 @@ impl Object {
         })
     }
 
+    /// The shape that was declared.
     pub fn shape(&self) -> &Shape
         ensures { result.now ≡ self.now.shape }
     {
         &self.shape
     }
 
+    /// The values of its bounds, the left ones first.
     pub fn bounds(&self) -> &[u64]
         ensures { result.now ≡ self.now.bounds }
     {

@@ -22,6 +22,7 @@ impl Node<'_> {
         Ok(self.layout.bound(object, dimension).is_some())
     }
 
+    /// Whether the object is spread over the nodes. Where there is no such object it is not.
     pub fn is_spread(&self, object: u32) -> bool
         ensures { result ≡ elements.is_spread self.now.layout.now object }
     {

@@ -99,6 +99,7 @@ impl Node<'_> {
         }
     }
 
+    /// Lets the local hold the value. Where there is no such local nothing changes.
     #[tactic(auto, unfolding(crate::specs::Does::set_local, crate::specs::Standing::ran, crate::specs::Standing::arrived))]
     pub fn set_local(&self, run: &mut Run, local: u32, value: Value)
         ensures { Reaches self.now run.old run.new (Ok tt) (does.set_local local value) }
@@ -149,6 +150,8 @@ impl Node<'_> {
         }
     }
 
+    /// Reads the cell: the request is made at the token and has the line of the spot. `Halt` says where the node stands if its
+    /// answer is still to come.
     #[tactic(auto, using(crate::proofs::Steps::steps), unfolding(crate::specs::Does::read_cell))]
     pub fn read_cell(&self, run: &mut Run, spot: Spot, place: Place) -> Result<Value, Halt>
         requires { IsPlace self.now.layout.now place }
@@ -159,6 +162,8 @@ impl Node<'_> {
         Ok(shown(answer))
     }
 
+    /// Writes the value to the cell, by a request at the token and with the line of the spot. `Halt` says where the node stands
+    /// if its answer is still to come.
     #[tactic(auto, using(crate::proofs::Steps::steps), unfolding(crate::specs::Does::write_cell))]
     pub fn write_cell(
         &self,

@@ -8,6 +8,7 @@ ghost use Rattle.tree_run.specs.Values as values;
 use crate::node::Node;
 use sc_base::{Binary, FaultKind, Star, Unary, Value, binary, unary};
 
+/// The value as a number. A null or a pointer, which a well-typed tree has at no such place, counts as 0.
 pub fn number_of(value: Value) -> i64
     ensures { result ≡ values.number_of value }
 {
@@ -17,6 +18,7 @@ pub fn number_of(value: Value) -> i64
     }
 }
 
+/// Whether a test of the value holds: a number other than 0, or a pointer that is not null.
 pub fn is_true(value: Value) -> bool
     ensures { result ≡ values.is_true value }
 {
@@ -27,6 +29,7 @@ pub fn is_true(value: Value) -> bool
     }
 }
 
+/// 1 where it holds, and else 0.
 pub fn truth_of(holds: bool) -> Value
     ensures { result ≡ values.truth_of holds }
 {
@@ -56,6 +59,7 @@ pub fn same(left: Value, right: Value) -> bool
     }
 }
 
+/// The last star of a pointer's type, which is that of the pointer itself.
 pub fn last_star(stars: &[Star]) -> Option<Star>
     ensures { result ≡ values.last_star stars.now }
 {
@@ -82,6 +86,7 @@ fn is_wide(star: Option<Star>) -> bool
     }
 }
 
+/// The pointer with this node. Null stays null.
 pub fn with_node(node: u32, value: Value) -> Value
     ensures { result ≡ with_node node value }
 {

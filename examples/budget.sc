@@ -1,0 +1,4 @@
+splitc_main() {
+  int i;
+  while (i < 4) { printf("%d", i); i++; }
+}

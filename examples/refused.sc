@@ -1,0 +1,4 @@
+int x;
+splitc_main() {
+  x = y;
+}
