@@ -3,11 +3,17 @@
 #![tactic(auto)]
 
 pub mod access;
+pub mod code;
 pub mod journal;
 pub mod landed;
+pub mod op;
+pub mod operand;
 pub mod results;
 
 pub use access::{Access, Track};
+pub use code::{Code, FnRow, FnRows, Instrs};
 pub use journal::{Entry, Journal};
 pub use landed::Landed;
+pub use op::{Instr, Op};
+pub use operand::{Operand, Slot};
 pub use results::{NodeResult, NodeResults};
