@@ -17,3 +17,4 @@ pub mod Meeting
 pub mod Needed
 pub mod Sourced
 pub mod Smallest
+pub mod Transfer

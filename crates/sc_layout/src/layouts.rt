@@ -1,6 +1,6 @@
 //! A layout: where the cells of the declared objects lie.
 
-ghost use Rattle.std.specs.Prelude.{◌≡◌, ◌<◌, ◌↔◌, Some, length, slice_get, IsTrue, IsSomeAnd};
+ghost use Rattle.std.specs.Prelude.{◌≡◌, ◌<◌, ◌↔◌, Some, length, slice_get, IsTrue, IfOk, IsSomeAnd};
 ghost use Rattle.std.specs.Option.{option_map};
 ghost use Rattle.sc_layout.specs.Layout.{IsLayout};
 ghost use Rattle.sc_layout.specs.Small.{IsSmall};
@@ -8,6 +8,7 @@ ghost use Rattle.sc_layout.specs.Place.{IsPlace, IsPointerTo, Fits, extent_of, p
 
 use crate::objects::Object;
 use sc_base::{Place, Shape, Star, Ty, Value};
+use std::alloc::{AllocError, Global};
 use std::marker::Model;
 
 /// Where the cells of the declared objects lie on the nodes, seen as the number of nodes and the list of shapes
@@ -35,6 +36,17 @@ impl Layout {
         ensures { result ≡ record { nodes = nodes; objects = objects.items } }
     {
         Layout { nodes, objects }
+    }
+
+    /// A layout of its own with the same objects.
+    pub fn copy(&self, alloc: Global) -> Result<Layout, AllocError>
+        ensures { IfOk result (λ copy. copy ≡ self.now) }
+    {
+        let objects = copy_of_objects(alloc, self.objects.as_slice())?;
+        Ok(Layout {
+            nodes: self.nodes,
+            objects,
+        })
     }
 
     /// The number of nodes.
@@ -130,6 +142,16 @@ impl Layout {
         let _nodes = self.nodes;
         &self.objects[object as usize]
     }
+}
+
+fn copy_of_objects(alloc: Global, objects: &[Object]) -> Result<Vec<Object>, AllocError>
+    ensures { IfOk result (λ copy. copy.items ≡ objects.now) }
+{
+    let mut copies = Vec::new(alloc);
+    for object in objects {
+        copies.push(object.copy(alloc)?)?;
+    }
+    Ok(copies)
 }
 
 fn same_stars(a: &[Star], b: &[Star]) -> bool

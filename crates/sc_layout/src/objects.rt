@@ -1,6 +1,6 @@
 //! Objects of a layout, with what their extents are computed from.
 
-ghost use Rattle.std.specs.Prelude.{◌≡◌, ◌<◌, ◌+◌, ◌-◌, ◌*◌, ◌/◌, ◌%◌, ◌^◌, Ok, min, MatchResult};
+ghost use Rattle.std.specs.Prelude.{◌≡◌, ◌<◌, ◌+◌, ◌-◌, ◌*◌, ◌/◌, ◌%◌, ◌^◌, Ok, min, IfOk, MatchResult};
 ghost use Rattle.sc_layout.specs.Layout.{product, cells_of, object_of, IsCause};
 ghost use Rattle.sc_layout.specs.Place.{place_in, spread_place};
 ghost use Rattle.sc_layout.specs.Small.{IsSmall};
@@ -8,7 +8,7 @@ ghost use Rattle.sc_layout.specs.Small.{IsSmall};
 use crate::bounds::values_of;
 use crate::error::LayoutError;
 use sc_base::{Place, Shape, copy_of_shape};
-use std::alloc::Global;
+use std::alloc::{AllocError, Global};
 use std::marker::Model;
 
 /// An object of a layout, seen as its shape and the values of its bounds. It keeps the number of its blocks and
@@ -49,6 +49,20 @@ impl Object {
             bounds,
             blocks,
             block,
+        })
+    }
+
+    /// An object of its own with the same shape and bounds.
+    pub fn copy(&self, alloc: Global) -> Result<Object, AllocError>
+        ensures { IfOk result (λ copy. copy ≡ self.now) }
+    {
+        let shape = copy_of_shape(alloc, &self.shape)?;
+        let bounds = Vec::from_slice(alloc, self.bounds.as_slice())?;
+        Ok(Object {
+            shape,
+            bounds,
+            blocks: self.blocks,
+            block: self.block,
         })
     }
 

@@ -1,0 +1,13 @@
+pub mod Deciding
+pub mod Parts
+pub mod Keys
+pub mod Flying
+pub mod InFlight
+pub mod Counting
+pub mod Done
+pub mod Tested
+pub mod Barrier
+pub mod BookSteps
+pub mod Gaps
+pub mod Issues
+pub mod Quiet

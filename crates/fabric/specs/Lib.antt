@@ -1,0 +1,15 @@
+pub mod Access
+pub mod Effects
+pub mod Barriers
+pub mod Outstanding
+pub mod Wired
+pub mod Flight
+pub mod WiredTest
+pub mod Laws
+pub mod Asked
+pub mod Legal
+pub mod Books
+pub mod Reads
+pub mod State
+pub mod Kept
+pub mod Log

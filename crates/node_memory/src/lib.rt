@@ -1,0 +1,6 @@
+//! The memory of the nodes: a map from the places of a layout to the values of their cells.
+#![tactic(auto)]
+
+pub mod memory;
+
+pub use memory::NodeMemory;
