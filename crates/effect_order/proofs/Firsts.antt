@@ -35,6 +35,10 @@ first-in P xs x f = subst (In x) (sym f.2) (in-middle f.0 x f.1)
 pub first_is_one : {X : Type 0} (P : X → Type 0) (xs : List X) (x y : X) → FirstOf P xs x → FirstOf P xs y → x ≡ y
 first_is_one P xs x y f g = alike (λ a. P a → ⊥) f.0 f.1 x g.0 g.1 y (sym f.2 ∙ g.2) f.4 g.4 (λ n. n f.3) (λ n. n g.3)
 
+-- behind one that does not have P
+pub first-behind : {X : Type 0} (P : X → Type 0) (z : X) (xs : List X) (x : X) → (P z → ⊥) → FirstOf P xs x → FirstOf P (z ∷ xs) x
+first-behind P z xs x n f = (z ∷ f.0, f.1, ap (λ u. z ∷ u) f.2, f.3, (n, f.4))
+
 pub first_or_none : {X : Type 0} (P : X → Type 0) (xs : List X) → Each (λ a. P a ⊎ (P a → ⊥)) xs → ((x : X) × FirstOf P xs x) ⊎ NoneOf P xs
 first_or_none P [] d = inr tt
 first_or_none P (x ∷ xs) d =
@@ -42,7 +46,7 @@ first_or_none P (x ∷ xs) d =
     (λ p. inl (x, ([], xs, refl, p, tt)))
     (λ n.
     ⊎_elim
-    (λ f. inl (f.0, (x ∷ f.1.0, f.1.1, ap (λ u. x ∷ u) f.1.2, f.1.3, (n, f.1.4))))
+    (λ f. inl (f.0, first-behind P x xs f.0 n f.1))
     (λ m. inr (n, m))
     (first_or_none P xs d.1))
     d.0
@@ -66,7 +70,7 @@ cases_by P (z ∷ xs) ys (u ∷ us) vs x e p n =
     let t : xs ++ ys ≡ us ++ x ∷ vs = cc in
     let not_z = subst (λ w. P w → ⊥) (sym h) n.0 in
     ⊎_elim
-    (λ f. inl (z ∷ f.0, f.1, ap (λ w. z ∷ w) f.2, f.3, (not_z, f.4)))
+    (λ f. inl (first-behind P z xs x not_z f))
     (λ f. inr ((not_z, f.0), f.1))
     (cases_by P xs ys us vs x t p n.1)
 

@@ -27,3 +27,4 @@ pub mod Tables
 pub mod Meeting
 pub mod MeetingCode
 pub mod Needed
+pub mod Followed

@@ -29,7 +29,7 @@ is_sync s = not (has_effect s.does) && (not s.is_release && line.is_sync s.point
 pub sync_is : (s : Row) → Sync meeting s → is_sync s ≡ true
 sync_is s h = both _ _ (not_from_false _ h.0) (both _ _ (not_from_false _ h.1) h.2)
 
-no_effect : (es : List Effect) → has_effect es ≡ false → es ≡ []
+pub no_effect : (es : List Effect) → has_effect es ≡ false → es ≡ []
 no_effect [] h = refl
 no_effect (e ∷ es) h = absurd (cc)
 

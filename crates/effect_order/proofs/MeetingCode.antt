@@ -6,7 +6,8 @@ use Rattle.effect_order.specs.Lists.{In}
 use Rattle.effect_order.specs.Flow.{PathBy}
 use Rattle.effect_order.specs.Plan.{GoesOneWay, Placed, Walked, Waited, Counted, CodeFacts}
 use Rattle.effect_order.specs.Meeting.{Row, rows, has_effect, line, meeting, line_code, is_placed, arrives}
-use Rattle.effect_order.proofs.Tables.{each_row, each_two, every_below, below, implies, holds, row_at, in_at, some_from, some_of}
+use Rattle.effect_order.specs.Needed.{row_at}
+use Rattle.effect_order.proofs.Tables.{each_row, each_two, every_below, below, implies, holds, in_at, some_from, some_of}
 use Rattle.effect_order.proofs.Meeting.{both, earlier, together, is_earlier, is_together, is_sync, sync_is}
 
 abbrev further_test : Row → Row → Bool

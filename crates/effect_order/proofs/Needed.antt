@@ -12,11 +12,11 @@ use Rattle.effect_order.specs.Run.{story}
 use Rattle.effect_order.specs.Greedy.{AllowedIs}
 use Rattle.effect_order.specs.Sourced.{sooner, Tied}
 use Rattle.effect_order.specs.Meeting.{Row, rows, has_effect, line, meeting, at_start}
-use Rattle.effect_order.specs.Needed.{needs, is_in, all_taken, is_shown, may_follow}
+use Rattle.effect_order.specs.Needed.{row_at, needs, is_in, all_taken, is_shown, may_follow}
 use Rattle.effect_order.proofs.Equal.{value_is, value_self}
 use Rattle.effect_order.proofs.Members.{each-in, each-self, pairs-map}
 use Rattle.effect_order.proofs.Moments.{blocking_of}
-use Rattle.effect_order.proofs.Tables.{each_two, each_pair, implies, holds, row_at}
+use Rattle.effect_order.proofs.Tables.{each_two, each_pair, implies, holds}
 use Rattle.effect_order.proofs.Meeting.{earlier, together, is_sync}
 
 -- why what is needed must come before: a test for each reason
@@ -106,11 +106,11 @@ edge a b i j n =
 its_number : Each (λ a. row_at rows a.number ≡ a) rows
 its_number = (refl, (refl, (refl, (refl, (refl, (refl, (refl, (refl, (refl, (refl, (refl, (refl, (refl, (refl, (refl, (refl, (refl, (refl, (refl, (refl, (refl, (refl, (refl, tt)))))))))))))))))))))))
 
-same_row : (a b : Row) → In a rows → In b rows → a.number ≡ b.number → a ≡ b
+pub same_row : (a b : Row) → In a rows → In b rows → a.number ≡ b.number → a ≡ b
 same_row a b i j e =
     sym (each-in (λ u. row_at rows u.number ≡ u) rows a its_number i) ∙ ap (row_at rows) e ∙ each-in (λ u. row_at rows u.number ≡ u) rows b its_number j
 
-from_in : (a : Row) (past : List Row) → In a rows → Each (λ b. In b rows) past → is_in a past ≡ true → In a past
+pub from_in : (a : Row) (past : List Row) → In a rows → Each (λ b. In b rows) past → is_in a past ≡ true → In a past
 from_in a [] i w h = absurd (cc)
 from_in a (b ∷ past) i w h =
     ⊎_elim
@@ -123,7 +123,7 @@ to_in a [] i = absurd i
 to_in a (b ∷ past) (inl q) = or_left (a.number == b.number) (is_in a past) (eq-eqb _ _ (ap (λ (u : Row). u.number) q))
 to_in a (b ∷ past) (inr i) = or_right (a.number == b.number) (is_in a past) (to_in a past i)
 
-taken_of : (past : List Row) (x : Row) (others : List Row) → all_taken past x others ≡ true → Each (λ a. needs a x ≡ true → is_in a past ≡ true) others
+pub taken_of : (past : List Row) (x : Row) (others : List Row) → all_taken past x others ≡ true → Each (λ a. needs a x ≡ true → is_in a past ≡ true) others
 taken_of past x [] h = tt
 taken_of past x (a ∷ others) h =
     let p = and_parts (not (needs a x) || is_in a past) (all_taken past x others) h in

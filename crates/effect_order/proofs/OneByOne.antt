@@ -11,6 +11,7 @@ use Rattle.effect_order.specs.Order.Edge.{ByBlocking}
 use Rattle.effect_order.specs.Run.{Copies, story}
 use Rattle.effect_order.specs.RunFacts.{Timed, Analysed}
 use Rattle.effect_order.specs.Plan.{Walked, Waited, Counted, CodeFacts}
+use Rattle.effect_order.specs.Directly.{WaitsDirectly}
 use Rattle.effect_order.specs.Greedy.{AllowedIs, comes_before}
 use Rattle.effect_order.specs.Sourced.{sooner, Tied}
 use Rattle.effect_order.specs.Prefix.{first_steps}
@@ -178,6 +179,15 @@ module _ (nodes : ℕ) (start : Place → Value) (time : Effect → ℕ) (own : 
   waits e f i a b n t u =
       let h = own_of f f i b refl u in
       o.numbered e (own f.node i) a h.0 (n ∙ h.1) (omega (arith, h.2))
+
+  pub direct : WaitsDirectly (small_run time all) (λ e. false)
+  direct = record {
+    over = λ e f i p b n t h. o.numbered e f i p.0 n t;
+    end_quiet = λ e i h. never (sym h);
+    end_step = λ e i h. never (sym h);
+    end_last = λ e f p q h n t. never (sym h);
+    no_release = λ e m i j h k t. never (sym h);
+  }
 
   pub code : CodeFacts (small_run time all) (small_code nodes time own all)
   code = record { walked = walked; waited = waited; counted = counted }

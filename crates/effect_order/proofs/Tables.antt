@@ -2,7 +2,8 @@
 use Rattle.std.proofs.Common.{◌≡◌, ℕ, zero, suc, ◌<◌, List, [], ◌∷◌, length, refl, sym, subst, inl, inr, ⊎_elim, arith, Bool, true, false, not, ◌&&◌, ◌||◌}
 use Rattle.std.proofs.lemmas.Bool.{and_parts, or_cases, or_left, or_right, cases_lt}
 use Rattle.effect_order.specs.Lists.{In, Each, Pairs}
-use Rattle.effect_order.specs.Meeting.{Row, rows, release, some_row}
+use Rattle.effect_order.specs.Meeting.{Row, rows, some_row}
+use Rattle.effect_order.specs.Needed.{row_at}
 
 abbrev pub every : (Row → Bool) → List Row → Bool
 every test [] = true
@@ -55,11 +56,6 @@ implies a b = not a || b
 pub holds : (a b : Bool) → implies a b ≡ true → a ≡ true → b ≡ true
 holds true b h e = h
 holds false b h e = absurd (cc)
-
-abbrev pub row_at : List Row → ℕ → Row
-row_at [] n = release 0 0
-row_at (e ∷ es) zero = e
-row_at (e ∷ es) (suc n) = row_at es n
 
 pub in_at : (es : List Row) (n : ℕ) → n < length es → In (row_at es n) es
 in_at [] n t = absurd (omega arith)

@@ -1,11 +1,12 @@
 -- The law of histories of the smallest run with a barrier: an item is allowed where all that it needs was taken, and
 -- where what it reads is what the places hold.
-use Rattle.std.specs.Prelude.{List, [], ◌∷◌, ltb, Bool, true, false, not, ◌==◌, ◌&&◌, ◌||◌}
+use Rattle.std.specs.Prelude.{ℕ, zero, suc, List, [], ◌∷◌, map, filter, ltb, Bool, true, false, not, ◌==◌, ◌&&◌, ◌||◌}
 use Rattle.sc_base.specs.declared.value.Place.{Place}
 use Rattle.sc_base.specs.declared.value.Value.{Value}
 use Rattle.effect_order.specs.Effect.{Effect, same_value, held}
 use Rattle.effect_order.specs.Items.{memory_of}
-use Rattle.effect_order.specs.Meeting.{Row, rows, has_effect, arrives, line, at_start}
+use Rattle.effect_order.specs.Rules.{Sorted}
+use Rattle.effect_order.specs.Meeting.{Row, rows, release, has_effect, arrives, line, at_start}
 
 abbrev pub of_node : Row → Row → Bool
 of_node a b = (a.node == b.node) && not b.is_release
@@ -52,3 +53,28 @@ is_shown memory (effect ∷ earlier) =
 
 abbrev pub may_follow : List Row → Row → Bool
 may_follow past x = all_taken past x rows && is_shown (memory_of (λ e. e.does) at_start past) x.does
+
+-- the row with this number
+abbrev pub row_at : List Row → ℕ → Row
+row_at [] n = release 0 0
+row_at (e ∷ es) zero = e
+row_at (e ∷ es) (suc n) = row_at es n
+
+-- the rows with these numbers
+abbrev pub rows_at : List ℕ → List Row
+rows_at numbers = map (row_at rows) numbers
+
+-- the own steps of node 0, and of node 1
+abbrev pub steps_of : Bool → List Row
+steps_of true = rows_at (0 ∷ 2 ∷ 7 ∷ 13 ∷ 10 ∷ 17 ∷ 19 ∷ 21 ∷ [])
+steps_of false = rows_at (3 ∷ 5 ∷ 9 ∷ 12 ∷ 11 ∷ 18 ∷ 20 ∷ 22 ∷ [])
+
+-- the rows by their kinds
+abbrev pub sorted : Sorted Row
+sorted = record {
+  nodes = 2;
+  own = λ p. steps_of (p == 0);
+  is_effect = λ e. has_effect e.does;
+  releases = row_at rows 16 ∷ [];
+  effects = filter (λ e. has_effect e.does) rows;
+}

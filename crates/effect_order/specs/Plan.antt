@@ -18,7 +18,7 @@ OneWay {S} Goes Demand may_go_one_way is_barrier a =
 -- the walks, the waits and the barriers of a run
 pub record Code {E S : Type 0} (r : Run E S) : Type 1 where
   pub Demand : S → S → Type 0  -- a node may begin the second point only when its access of the first is over
-  pub is_one_way : S → Bool  -- the plan sends the site's access one-way; of a plan with none, no site
+  pub is_one_way : S → Bool  -- the plan sends the site's access one-way; a plan may name no site
   pub is_arrival : E → Bool  -- the item is a node's arrival at a barrier
   pub awaits_stores : E → Bool  -- an arrival whose release waits for the stores before it
   pub is_placed : E → Bool  -- its own step stands at a point of the walk: all items but releases and ends

@@ -9,8 +9,8 @@ use Rattle.effect_order.specs.Greedy.{WereAllowed, Closed}
 -- the items of a run by their kinds
 pub record Sorted (X : Type 0) : Type 0 where
   pub nodes : ℕ  -- how many nodes there are
-  pub own : ℕ → List X  -- the own steps of a node, in their order
-  pub is_effect : X → Bool  -- an own step that is an effect at once, as a blocking read, a blocking write or an update
+  pub own : ℕ → List X  -- the own steps of a node in their order, those among them that are effects at once
+  pub is_effect : X → Bool  -- an own step that is an effect at once: a blocking read or write, or an update
   pub releases : List X  -- by number
   pub effects : List X  -- in the order of the run
 
@@ -19,7 +19,7 @@ abbrev pub IsNext : {X : Type 0} → List X → List X → X → Type 0
 IsNext {X} past xs x = (us vs : List X) × (xs ≡ us ++ x ∷ vs) × Each (λ a. In a past) us × (In x past → ⊥)
 
 module _ {X : Type 0} (does : X → List Effect) (allowed : List X → X → Bool) (s : Sorted X) where
-  -- the next own step of the node is no effect, and is allowed
+  -- x is the next own step of the node p, it is no effect, and it is allowed
   abbrev pub StepOf : List X → ℕ → X → Type 0
   StepOf past p x = IsNext past (s.own p) x × (s.is_effect x ≡ false) × (allowed past x ≡ true)
 

@@ -27,5 +27,5 @@ pub use smallest::{meeting_meets_premises, one_by_one_meets_premises};
 pub use source_order::{
     code_is_sourced, conflicting_order_keeps_values, each_after_what_it_needs,
     legal_by_construction, memory_stays, own_steps_first, reads_show_last_write, run_is_sourced,
-    source_order_is_by_rules, takes_everything,
+    source_order_is_by_rules, takes_everything, waiting_directly_is_sourced,
 };

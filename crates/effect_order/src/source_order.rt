@@ -12,6 +12,7 @@ ghost use Rattle.effect_order.specs.Rules.{Sorted, Follows, IsByRules, listed};
 ghost use Rattle.effect_order.specs.Prefix.{OwnSteps, first_steps};
 ghost use Rattle.effect_order.specs.RunFacts.{Timed, Analysed, RunFacts};
 ghost use Rattle.effect_order.specs.Plan.{CodeFacts};
+ghost use Rattle.effect_order.specs.Directly.{WaitsDirectly};
 ghost use Rattle.effect_order.specs.Sourced.{sooner, source_order, Tied};
 
 use crate::barriers::Coded;
@@ -87,6 +88,15 @@ pub fn run_is_sourced<T: Running>()
 /// each after what it needs, with the values and the memory of the run.
 pub fn code_is_sourced<T: Coded>()
     ensures { Timed T.run → Analysed T.run → CodeFacts T.run T.code →
+        (start : Place → Value) (needs : T.Item → T.Item → Bool) (allowed : List T.Item → T.Item → Bool)
+        (all : List T.Item) → Tied T.run start needs allowed all →
+        IsSourced T.run.does start (comes_before T.run.does (sooner T.run) needs) all (source_order T.run allowed all) }
+{}
+
+/// Where each blocking access of a run is over before its node's next own step begins, the source order by a law of histories
+/// that is tied to the run takes every item, each after what it needs, with the values and the memory of the run.
+pub fn waiting_directly_is_sourced<T: Running>()
+    ensures { Timed T.run → (is_end : T.Item → Bool) → WaitsDirectly T.run is_end →
         (start : Place → Value) (needs : T.Item → T.Item → Bool) (allowed : List T.Item → T.Item → Bool)
         (all : List T.Item) → Tied T.run start needs allowed all →
         IsSourced T.run.does start (comes_before T.run.does (sooner T.run) needs) all (source_order T.run allowed all) }

@@ -12,3 +12,6 @@ returns-clause-code c nodes start time own all o = OneByOne.code nodes start tim
 
 pub returns-clause-tied : goal.returns-clause-tied
 returns-clause-tied c nodes start time own all o = OneByOne.tied nodes start time own all o
+
+pub returns-clause-direct : goal.returns-clause-direct
+returns-clause-direct c nodes start time own all o = OneByOne.direct nodes start time own all o
