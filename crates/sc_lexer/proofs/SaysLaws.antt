@@ -128,7 +128,7 @@ on-line bytes e = all-weaker is_name_byte is_not_newline name-on-line bytes e
 -- ---- names, numbers, formats and marks
 
 named-says : (fresh : Bool) (bytes : List ℕ) (size : ℕ) → begins_hash bytes ≡ false → IsLongest is_name bytes size → IsSolid bytes size → (o : Option Word) → word_of (take size bytes) ≡ o → Says fresh bytes size (named o)
-named-says fresh bytes size no_hash longest solid None is = record { hash = no_hash; start = no_directive fresh; longest = longest; other = tt; solid = solid }
+named-says fresh bytes size no_hash longest solid None is = record { hash = no_hash; start = no_directive fresh; longest = (longest, is); other = tt; solid = solid }
 named-says fresh bytes size no_hash longest solid (Some w) is = record { hash = no_hash; start = no_directive fresh; longest = (longest, word-front (take size bytes) w is); other = tt; solid = solid }
 
 name_at-says : (fresh : Bool) (bytes : List ℕ) → begins_hash bytes ≡ false → begins_with is_name_start bytes ≡ true → Says fresh bytes (name_at bytes).size (name_at bytes).found
@@ -147,7 +147,7 @@ numeral_at-says fresh bytes no_hash digit =
     (λ stops. record {
       hash = no_hash;
       start = no_directive fresh;
-      longest = number-longest bytes digit stops;
+      longest = (number-longest bytes digit stops, refl);
       other = tt;
       solid = record { first = no-blank is_ascii_digit digit-no-blank bytes digit; on_line = on-line (take (numeral_size bytes) bytes) (number-front bytes digit) };
     }))

@@ -1,12 +1,13 @@
 -- Names, numbers and marks as whole texts, and the longest of them at the front of bytes.
-use Rattle.std.specs.Prelude.{◌≡◌, ℕ, ◌<◌, ◌≤◌, ◌==◌, Bool, true, false, not, ◌&&◌, ◌||◌, List, take, drop, length, codes}
+use Rattle.std.specs.Prelude.{◌≡◌, ℕ, pos, None, ◌<◌, ◌≤◌, ◌==◌, Bool, true, false, not, ◌&&◌, ◌||◌, List, take, drop, length, codes}
 use Rattle.std.specs.List.{list_all, list_any}
 use Rattle.std.specs.Str.{bytes_eq}
 use Rattle.std.specs.Char.{is_ascii_digit, is_ascii_hexdigit}
 use Rattle.sc_lexer.specs.declared.element.Found.{Found}
 use Rattle.sc_lexer.specs.declared.element.Found.TheVariants as found
 use Rattle.sc_lexer.specs.Class.{is_name_start, is_name_byte, begins_with}
-use Rattle.sc_lexer.specs.Spelling.{word_text, mark_text, marks}
+use Rattle.sc_lexer.specs.Number.{numeral_value}
+use Rattle.sc_lexer.specs.Spelling.{word_text, mark_text, marks, word_of}
 use Rattle.sc_lexer.specs.Piece.{Piece}
 
 -- a letter or `_`, followed by letters, digits and `_`
@@ -28,6 +29,7 @@ is_hexadecimal bytes =
 abbrev pub is_number : List ℕ → Bool
 is_number bytes = (bytes_eq bytes (codes "0") || is_decimal bytes) || is_hexadecimal bytes
 
+-- one of the marks
 unfoldable pub is_mark : List ℕ → Bool
 is_mark bytes = list_any (λ m. bytes_eq bytes (mark_text m)) marks
 
@@ -36,11 +38,11 @@ pub record IsLongest (is_one : List ℕ → Bool) (bytes : List ℕ) (size : ℕ
   pub fits : is_one (take size bytes) ≡ true
   pub no_longer : (n : ℕ) → size < n → n ≤ length bytes → is_one (take n bytes) ≡ false
 
--- what is found in the bytes at the front is the longest of its kind
+-- what is found in the bytes at the front is the longest of its kind, and is what they spell
 abbrev pub IsLongestFound : List ℕ → ℕ → Found → Type 0
-IsLongestFound bytes size found.Name = IsLongest is_name bytes size
+IsLongestFound bytes size found.Name = IsLongest is_name bytes size × (word_of (take size bytes) ≡ None)
 IsLongestFound bytes size (found.Word word) = IsLongest is_name bytes size × (take size bytes ≡ word_text word)
-IsLongestFound bytes size (found.Number value) = IsLongest is_number bytes size
+IsLongestFound bytes size (found.Number value) = IsLongest is_number bytes size × (value ≡ pos (numeral_value bytes))
 IsLongestFound bytes size (found.Mark mark) = IsLongest is_mark bytes size × (take size bytes ≡ mark_text mark)
 IsLongestFound bytes size found.Format = Unit {0}
 IsLongestFound bytes size found.Gap = Unit {0}

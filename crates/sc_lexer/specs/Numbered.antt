@@ -1,4 +1,4 @@
--- The tokens of a text beside its pieces, and which of its names and formats they number.
+-- The tokens of a text beside its pieces: what each is, and which of the text's names and formats it numbers.
 use Rattle.std.specs.Prelude.{◌≡◌, ℕ, ℤ, List, [], ◌∷◌, Option, Some, None, take, drop, length, zip, filter, filter_map, flat_map, slice_get, nat_lt}
 use Rattle.sc_tree.specs.Names.{Text, distinct}
 use Rattle.sc_tree.specs.declared.token.Token.{Token}

@@ -89,7 +89,8 @@ pub fn names_in_order()
         All (λ (t : Token × Piece). HasNumber a t.0.kind t.1.bytes) (with_pieces a.tokens (pieces text is.0)) }
 {}
 
-/// No name, number or mark of a text could be longer where it stands.
+/// No name, number or mark of a text could be longer where it stands. A name is no reserved word, a number has the
+/// value of its digits, and words and marks are spelled so.
 pub fn longest_elements()
     ensures { (text : List ℕ) (a : Lexed) (is : IsLexed text a) → All (IsLongestPiece text) (pieces text is.0) }
 {}
