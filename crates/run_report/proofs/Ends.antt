@@ -6,8 +6,8 @@ use Rattle.sc_base.specs.declared.value.End.{End}
 use Rattle.run_sim.specs.declared.result.NodeResult.{NodeResult}
 use Rattle.run_report.specs.Report.{ends_in}
 use Rattle.run_report.specs.Status.{some_end, is_fault, is_cut, is_waiting, status_of}
-use Rattle.run_report.specs.declared.status.RunStatus.TheVariants.{Ended as AllEnded, Fault as SomeFault}
-use Rattle.run_report.specs.declared.status.RunStatus.TheVariants.{Cut as SomeCut, Waiting as SomeWaiting}
+use Rattle.run_report.specs.declared.status.Status.TheVariants.{Ended as AllEnded, Fault as SomeFault}
+use Rattle.run_report.specs.declared.status.Status.TheVariants.{Cut as SomeCut, Waiting as SomeWaiting}
 
 shift : (test : Option End → Bool) (ends : ℕ → Option End) (first count : ℕ) →
     some_end test ends (first + 1) count ≡ some_end test (λ n. ends (suc n)) first count

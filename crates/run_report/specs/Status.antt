@@ -1,10 +1,12 @@
--- The status that the nodes' ends give a run, and its number. Both are this project's own.
+-- The statuses that the program ends with, the number of each, and which one the nodes' ends give a run. They are this
+-- project's own.
 use Rattle.std.specs.Prelude.{ℕ, zero, suc, ◌+◌, Option, Some, Bool, true, false, ◌||◌, if◌then◌else◌}
 use Rattle.sc_base.specs.declared.value.End.{End}
 use Rattle.sc_base.specs.declared.value.End.TheVariants.{Fault, Cut, Waiting}
-use Rattle.run_report.specs.declared.status.RunStatus.{RunStatus}
-use Rattle.run_report.specs.declared.status.RunStatus.TheVariants.{Ended as AllEnded, Fault as SomeFault}
-use Rattle.run_report.specs.declared.status.RunStatus.TheVariants.{Cut as SomeCut, Waiting as SomeWaiting}
+use Rattle.run_report.specs.declared.status.Status.{Status}
+use Rattle.run_report.specs.declared.status.Status.TheVariants.{Ended as AllEnded, Fault as SomeFault}
+use Rattle.run_report.specs.declared.status.Status.TheVariants.{Cut as SomeCut, Waiting as SomeWaiting}
+use Rattle.run_report.specs.declared.status.Status.TheVariants.{Words, Refused, Read, Write, Memory}
 
 -- some node from this number on ended so
 abbrev pub some_end : (Option End → Bool) → (ℕ → Option End) → ℕ → ℕ → Bool
@@ -24,14 +26,19 @@ is_waiting (Some Waiting) = true
 is_waiting _ = false
 
 -- a fault before a cut, and a cut before a wait
-abbrev pub status_of : ℕ → (ℕ → Option End) → RunStatus
+abbrev pub status_of : ℕ → (ℕ → Option End) → Status
 status_of nodes ends =
     if some_end is_fault ends 0 nodes then SomeFault else
     if some_end is_cut ends 0 nodes then SomeCut else
     if some_end is_waiting ends 0 nodes then SomeWaiting else AllEnded
 
-abbrev pub code_of : RunStatus → ℕ
+abbrev pub code_of : Status → ℕ
 code_of AllEnded = 0
 code_of SomeFault = 10
 code_of SomeWaiting = 11
 code_of SomeCut = 12
+code_of Words = 2
+code_of Refused = 3
+code_of Read = 4
+code_of Write = 5
+code_of Memory = 6

@@ -1,4 +1,4 @@
-//! The report of a run over any layout, and the status that the run gives the program.
+//! The report of a run over any layout, and the status that it gives the program.
 #![tactic(auto)]
 
 pub mod cells;
@@ -10,7 +10,7 @@ mod values;
 
 pub use cells::Cells;
 pub use report::report_text;
-pub use status::{RunStatus, status_of_results};
+pub use status::{Status, status_of_results};
 
 #[cfg(test)]
 mod tests;

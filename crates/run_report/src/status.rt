@@ -1,4 +1,4 @@
-//! How a run ends.
+//! How the program ends.
 
 ghost use Rattle.std.specs.Prelude.{◌≡◌, Some, length};
 ghost use Rattle.std.specs.List.{list_any};
@@ -8,25 +8,37 @@ ghost use Rattle.run_report.specs.Status.{code_of, is_fault, is_cut, is_waiting,
 use run_sim::result::NodeResult;
 use sc_base::End;
 
-/// How a run ends: all nodes ended, or one is at fault, was cut, or is waiting.
+/// How the program ends: with the report of a run in which each node ended or in which some is at fault, is waiting or was
+/// cut (`Ended`, `Fault`, `Waiting`, `Cut`), with a refusal's line (`Words`, `Refused`, `Read`, `Memory`), or by a sink
+/// that failed (`Write`).
 #[derive(Clone, Copy, Debug, PartialEq, Eq)]
-pub enum RunStatus {
+pub enum Status {
     Ended,
     Fault,
     Waiting,
     Cut,
+    Words,
+    Refused,
+    Read,
+    Write,
+    Memory,
 }
 
-impl RunStatus {
+impl Status {
     /// The number that the process ends with.
     pub fn code(&self) -> u8
         ensures { result ≡ code_of self.now }
     {
         match self {
-            RunStatus::Ended => 0,
-            RunStatus::Fault => 10,
-            RunStatus::Waiting => 11,
-            RunStatus::Cut => 12,
+            Status::Ended => 0,
+            Status::Fault => 10,
+            Status::Waiting => 11,
+            Status::Cut => 12,
+            Status::Words => 2,
+            Status::Refused => 3,
+            Status::Read => 4,
+            Status::Write => 5,
+            Status::Memory => 6,
         }
     }
 }
@@ -52,16 +64,16 @@ fn some_waiting(nodes: &[NodeResult]) -> bool
 }
 
 /// How the run ends whose nodes left these results: at fault before cut, and cut before waiting.
-pub fn status_of_results(nodes: &[NodeResult]) -> RunStatus
+pub fn status_of_results(nodes: &[NodeResult]) -> Status
     ensures { result ≡ status_of (length nodes.now) (ends_in nodes.now) }
 {
     if some_fault(nodes) {
-        RunStatus::Fault
+        Status::Fault
     } else if some_cut(nodes) {
-        RunStatus::Cut
+        Status::Cut
     } else if some_waiting(nodes) {
-        RunStatus::Waiting
+        Status::Waiting
     } else {
-        RunStatus::Ended
+        Status::Ended
     }
 }

@@ -8,7 +8,7 @@ ghost use Rattle.sc_layout.specs.Layout.{IsLawful};
 
 use crate::cells::Cells;
 use crate::report::report_text;
-use crate::status::{RunStatus, status_of_results};
+use crate::status::{Status, status_of_results};
 use run_sim::result::NodeResult;
 use sc_base::{
     Bound, BoundStep, BoundSteps, Bounds, Bytes, End, FaultKind, OutOfMemory, Place, Shape, Star,
@@ -212,11 +212,11 @@ fn each_kind_of_end(rt: HostRuntime) -> Result<(), Fail> {
     };
     let mut nodes = Vec::new(alloc);
     for (end, status, code) in [
-        (End::Ended, RunStatus::Ended, 0),
-        (End::Waiting, RunStatus::Waiting, 11),
-        (End::Cut, RunStatus::Cut, 12),
-        (fault, RunStatus::Fault, 10),
-        (End::Cut, RunStatus::Fault, 10),
+        (End::Ended, Status::Ended, 0),
+        (End::Waiting, Status::Waiting, 11),
+        (End::Cut, Status::Cut, 12),
+        (fault, Status::Fault, 10),
+        (End::Cut, Status::Fault, 10),
     ] {
         nodes.push(node(alloc, b"x\n", end)?)?;
         let found = status_of_results(nodes.as_slice());

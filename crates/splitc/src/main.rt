@@ -2,7 +2,7 @@
 #![tactic(auto)]
 
 use sc_io::{ReadSource, WriteSink, write_all};
-use splitc_top::status::Status;
+use splitc_top::Status;
 use splitc_top::top::{NoGate, top};
 use std::alloc::{AllocError, Global};
 use std::env;

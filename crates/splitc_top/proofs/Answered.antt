@@ -4,19 +4,16 @@ use Rattle.std.proofs.Common.{None, refl, sym, ap, ◌∙◌, subst}
 use Rattle.std.specs.Prelude.{IsSome}
 use Rattle.std.proofs.lemmas.List.{append-nil}
 use Rattle.sc_io.specs.Streams.{Gains}
-use Rattle.run_report.specs.declared.status.RunStatus.{RunStatus}
-use Rattle.run_report.specs.Status.{status_of}
 use Rattle.splitc_top.specs.Reasons.{reason_line, status_of_reason}
 use Rattle.splitc_top.specs.Top.{Call, Failed, Gained, GainedPart, Tells, IsCause, IsAnswer, IsReport, IsRefusal}
-use Rattle.splitc_top.specs.Top.{status_of_run}
 use Rattle.splitc_top.specs.Words.{nodes_of}
 use Rattle.splitc_top.specs.declared.words.Command.{Command}
 use Rattle.splitc_top.specs.declared.reason.Reason.{Reason}
 use Rattle.splitc_top.specs.declared.reason.Reason.TheVariants as reason
-use Rattle.splitc_top.specs.declared.status.Status.{Status}
-use Rattle.splitc_top.specs.declared.status.Status.TheVariants.{Words, Write, Memory}
+use Rattle.run_report.specs.declared.status.Status.{Status}
+use Rattle.run_report.specs.declared.status.Status.TheVariants.{Words, Write, Memory}
 use Rattle.splitc_top.proofs.OneAnswer.{not_outside, one_reason, outside_status, told_outside, outside_unreported}
-use Rattle.splitc_top.proofs.Statuses.{run_reports, run_not_refused, run_not_write, reason_not_reported}
+use Rattle.splitc_top.proofs.Statuses.{run_reports, report_not_refused, reason_not_reported}
 use Rattle.splitc_top.proofs.Statuses.{reason_not_write, write_not_reported, write_not_refused}
 
 -- a sink that was left alone gained nothing
@@ -42,15 +39,15 @@ module _ (call : Call) where
   pub report_answer : (text : List ℕ) (status : Status) → Tells call text status → Gained call.out text
       → Gained call.err [] → IsAnswer call status
   report_answer text status told out err =
-      let run : RunStatus = status_of told.report_of.layout.nodes told.report_of.shown.ends in
-      let is : status ≡ status_of_run run = told.report_of.status_is in
+      let reports : IsReport status = subst IsReport (sym told.report_of.status_is)
+      (run_reports told.report_of.layout.nodes told.report_of.shown.ends) in
       record {
         reported = λ h. (text, told, out, err);
-        refused = λ h. absurd (run_not_refused run (subst IsRefusal is h));
-        cut_short = λ h. absurd (run_not_write run (sym is ∙ h));
+        refused = λ h. absurd (report_not_refused status reports h);
+        cut_short = λ h. absurd (write_not_reported (subst IsReport h reports));
         words_alone = λ still some none. none_named text status told none;
         accepted = λ command bytes names typed layout named left t built a b c d.
-            subst IsReport (sym is) (run_reports run);
+            reports;
         outside = λ command bytes r named left h a b c.
             absurd (outside_unreported command bytes call.command call.source.before call.source.after named left
             text status r h told);

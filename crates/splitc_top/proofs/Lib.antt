@@ -1,4 +1,5 @@
 pub mod Answered
+pub mod Excused
 pub mod Numbers
 pub mod OneAnswer
 pub mod Options

@@ -14,8 +14,8 @@ use Rattle.tree_run.specs.Built.{is_built}
 use Rattle.splitc_top.specs.declared.words.Command.{Command}
 use Rattle.splitc_top.specs.declared.reason.Reason.{Reason}
 use Rattle.splitc_top.specs.declared.reason.Reason.TheVariants as reason
-use Rattle.splitc_top.specs.declared.status.Status.{Status}
-use Rattle.splitc_top.specs.declared.status.Status.TheVariants.{Refused}
+use Rattle.run_report.specs.declared.status.Status.{Status}
+use Rattle.run_report.specs.declared.status.Status.TheVariants.{Refused}
 use Rattle.splitc_top.specs.Words.{nodes_of}
 use Rattle.splitc_top.specs.Reasons.{IsTaken, IsOutside, IsRefused, IsReadFor, Holds, status_of_reason}
 use Rattle.splitc_top.specs.Top.{IsReported}

@@ -1,33 +1,38 @@
 -- Which statuses come with a report, and which with the line of a reason.
-use Rattle.std.proofs.Common.{◌≡◌, ◌≢◌, ◌⊎◌, inl, inr, ⊎_elim, refl, sym, ◌∙◌, subst}
-use Rattle.run_report.specs.declared.status.RunStatus.{RunStatus}
-use Rattle.run_report.specs.declared.status.RunStatus.TheVariants as run
+use Rattle.std.proofs.Common.{◌≡◌, ◌⊎◌, inl, inr, ⊎_elim, refl, ℕ, Option, Bool, true, false, if◌then◌else◌}
+use Rattle.sc_base.specs.declared.value.End.{End}
+use Rattle.run_report.specs.Status.{some_end, is_fault, is_cut, is_waiting, status_of}
 use Rattle.splitc_top.specs.declared.reason.Reason.{Reason}
 use Rattle.splitc_top.specs.declared.reason.Reason.TheVariants as reason
-use Rattle.splitc_top.specs.declared.status.Status.{Status}
-use Rattle.splitc_top.specs.declared.status.Status.TheVariants.{Ended, Fault, Waiting, Cut, Words, Refused, Read}
-use Rattle.splitc_top.specs.declared.status.Status.TheVariants.{Write, Memory}
+use Rattle.run_report.specs.declared.status.Status.{Status}
+use Rattle.run_report.specs.declared.status.Status.TheVariants.{Ended, Fault, Waiting, Cut, Words, Refused, Read}
+use Rattle.run_report.specs.declared.status.Status.TheVariants.{Write, Memory}
 use Rattle.splitc_top.specs.Reasons.{status_of_reason}
-use Rattle.splitc_top.specs.Top.{IsReport, IsRefusal, status_of_run}
+use Rattle.splitc_top.specs.Top.{IsReport, IsRefusal}
 
-pub run_reports : (s : RunStatus) → IsReport (status_of_run s)
-run_reports run.Ended = inl refl
-run_reports run.Fault = inr (inl refl)
-run_reports run.Waiting = inr (inr (inl refl))
-run_reports run.Cut = inr (inr (inr refl))
+some_reports : (fault cut waiting : Bool) →
+    IsReport (if fault then Fault else if cut then Cut else if waiting then Waiting else Ended)
+some_reports true cut waiting = inr (inl refl)
+some_reports false true waiting = inr (inr (inr refl))
+some_reports false false true = inr (inr (inl refl))
+some_reports false false false = inl refl
 
--- a run's status is none of a reason
-pub run_not_refused : (s : RunStatus) → IsRefusal (status_of_run s) → ⊥
-run_not_refused run.Ended h = ⊎_elim (λ e. cc) (λ h. ⊎_elim (λ e. cc) (λ h. ⊎_elim (λ e. cc) (λ e. cc) h) h) h
-run_not_refused run.Fault h = ⊎_elim (λ e. cc) (λ h. ⊎_elim (λ e. cc) (λ h. ⊎_elim (λ e. cc) (λ e. cc) h) h) h
-run_not_refused run.Waiting h = ⊎_elim (λ e. cc) (λ h. ⊎_elim (λ e. cc) (λ h. ⊎_elim (λ e. cc) (λ e. cc) h) h) h
-run_not_refused run.Cut h = ⊎_elim (λ e. cc) (λ h. ⊎_elim (λ e. cc) (λ h. ⊎_elim (λ e. cc) (λ e. cc) h) h) h
+-- the nodes' ends give the status of a report
+pub run_reports : (nodes : ℕ) (ends : ℕ → Option End) → IsReport (status_of nodes ends)
+run_reports nodes ends =
+    some_reports (some_end is_fault ends 0 nodes) (some_end is_cut ends 0 nodes) (some_end is_waiting ends 0 nodes)
 
-pub run_not_write : (s : RunStatus) → status_of_run s ≡ Write → ⊥
-run_not_write run.Ended h = cc
-run_not_write run.Fault h = cc
-run_not_write run.Waiting h = cc
-run_not_write run.Cut h = cc
+-- the status of a report is none of a refusal
+pub report_not_refused : (s : Status) → IsReport s → IsRefusal s → ⊥
+report_not_refused Ended r h = ⊎_elim (λ e. cc) (λ h. ⊎_elim (λ e. cc) (λ h. ⊎_elim (λ e. cc) (λ e. cc) h) h) h
+report_not_refused Fault r h = ⊎_elim (λ e. cc) (λ h. ⊎_elim (λ e. cc) (λ h. ⊎_elim (λ e. cc) (λ e. cc) h) h) h
+report_not_refused Waiting r h = ⊎_elim (λ e. cc) (λ h. ⊎_elim (λ e. cc) (λ h. ⊎_elim (λ e. cc) (λ e. cc) h) h) h
+report_not_refused Cut r h = ⊎_elim (λ e. cc) (λ h. ⊎_elim (λ e. cc) (λ h. ⊎_elim (λ e. cc) (λ e. cc) h) h) h
+report_not_refused Words h r = ⊎_elim (λ e. cc) (λ h. ⊎_elim (λ e. cc) (λ h. ⊎_elim (λ e. cc) (λ e. cc) h) h) h
+report_not_refused Refused h r = ⊎_elim (λ e. cc) (λ h. ⊎_elim (λ e. cc) (λ h. ⊎_elim (λ e. cc) (λ e. cc) h) h) h
+report_not_refused Read h r = ⊎_elim (λ e. cc) (λ h. ⊎_elim (λ e. cc) (λ h. ⊎_elim (λ e. cc) (λ e. cc) h) h) h
+report_not_refused Write h r = ⊎_elim (λ e. cc) (λ h. ⊎_elim (λ e. cc) (λ h. ⊎_elim (λ e. cc) (λ e. cc) h) h) h
+report_not_refused Memory h r = ⊎_elim (λ e. cc) (λ h. ⊎_elim (λ e. cc) (λ h. ⊎_elim (λ e. cc) (λ e. cc) h) h) h
 
 -- a reason's status is none of a run
 pub reason_not_reported : (r : Reason) → IsReport (status_of_reason r) → ⊥

@@ -28,9 +28,9 @@ use Rattle.run_report.specs.Status.{status_of}
 use Rattle.run_report.proofs.ShownSame.{HoldSame, report_same, status_same}
 use Rattle.splitc_top.specs.Jobs.{job_for}
 use Rattle.splitc_top.specs.Reasons.{IsTaken}
-use Rattle.splitc_top.specs.Top.{IsReportOf, machine_of, program_by, seed_of, budget_of, shows_memory, status_of_run}
+use Rattle.splitc_top.specs.Top.{IsReportOf, machine_of, program_by, seed_of, budget_of, shows_memory}
 use Rattle.splitc_top.specs.Words.{nodes_of}
-use Rattle.splitc_top.specs.declared.status.Status.{Status}
+use Rattle.run_report.specs.declared.status.Status.{Status}
 use Rattle.splitc_top.specs.declared.words.Command.{Command}
 use Rattle.splitc_top.proofs.Places.{placed}
 
@@ -67,7 +67,7 @@ pub told : (command : Command) (given : List ℕ) (names : List Text) (typed : P
     → ((k : ℕ) → picks k ≡ seed_word (seed_of command) k)
     → IsSimulated (job_for typed layout (budget_of command)) picks run
     → text ≡ report names layout (ends_in run.nodes) (texts_in run.nodes) (held_in run.memory) (shows_memory command)
-    → status ≡ status_of_run (status_of (length run.nodes) (ends_in run.nodes))
+    → status ≡ status_of (length run.nodes) (ends_in run.nodes)
     → IsReportOf command given text status
 told command given names typed layout picks run text status taken built lawful same ran text_is status_is =
     let program = program_by command typed layout in
@@ -101,6 +101,6 @@ told command given names typed layout picks run text status taken built lawful s
       text_is = text_is ∙ report_same names layout (ends_in run.nodes) shown.ends (texts_in run.nodes) shown.texts
           (held_in run.memory) shown.memory (shows_memory command) lawful.some_node ends texts
           (holds_same (job_for typed layout (budget_of command)) lawful picks run ran);
-      status_is = status_is ∙ ap (λ n. status_of_run (status_of n (ends_in run.nodes))) ran.ended.count
-          ∙ ap status_of_run (status_same layout.nodes (ends_in run.nodes) shown.ends ends);
+      status_is = status_is ∙ ap (λ n. status_of n (ends_in run.nodes)) ran.ended.count
+          ∙ status_same layout.nodes (ends_in run.nodes) shown.ends ends;
     }

@@ -1,5 +1,4 @@
 pub mod Words
-pub mod Status
 pub mod Reasons
 pub mod Line
 pub mod Jobs

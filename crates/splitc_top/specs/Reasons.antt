@@ -9,6 +9,8 @@ use Rattle.sc_tree.specs.Names.{Text}
 use Rattle.sc_tree.specs.PlainTypedTree.{PlainTypedTree}
 use Rattle.sc_layout.specs.Layout.{Arrangement}
 use Rattle.splitc_compile.specs.Accepted.{IsAccepted, Says}
+use Rattle.splitc_compile.specs.declared.refusal.CompileError.{CompileError}
+use Rattle.splitc_compile.specs.declared.refusal.CompileError.TheVariants as compile
 use Rattle.splitc_compile.specs.declared.refusal.Refusal.{Refusal}
 use Rattle.splitc_compile.specs.declared.refusal.Refusal.TheVariants as refusal
 use Rattle.tree_run.specs.Built.{is_built}
@@ -17,8 +19,8 @@ use Rattle.splitc_top.specs.Words.{nodes_of}
 use Rattle.splitc_top.specs.declared.words.Command.{Command}
 use Rattle.splitc_top.specs.declared.reason.Reason.{Reason}
 use Rattle.splitc_top.specs.declared.reason.Reason.TheVariants as reason
-use Rattle.splitc_top.specs.declared.status.Status.{Status}
-use Rattle.splitc_top.specs.declared.status.Status.TheVariants.{Words, Refused, Read, Memory}
+use Rattle.run_report.specs.declared.status.Status.{Status}
+use Rattle.run_report.specs.declared.status.Status.TheVariants.{Words, Refused, Read, Memory}
 
 -- ---- lines and statuses
 
@@ -43,6 +45,11 @@ reason_line (reason.Refused r) = refusal_line r
 reason_line reason.NotBuilt = line (codes "splitc: not built yet")
 reason_line reason.Read = line (codes "splitc: read fault")
 reason_line reason.Memory = line (codes "splitc: no memory")
+
+-- a source that is not accepted, as a reason
+abbrev pub reason_of : CompileError → Reason
+reason_of (compile.Refused r) = reason.Refused r
+reason_of compile.OutOfMemory = reason.Memory
 
 abbrev pub status_of_reason : Reason → Status
 status_of_reason reason.Words = Words

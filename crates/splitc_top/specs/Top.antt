@@ -18,16 +18,14 @@ use Rattle.run_sim.specs.Run.{Machine, IsRun, run_outcome}
 use Rattle.run_sim.specs.Simulation.{IsSimulation}
 use Rattle.run_report.specs.Report.{report}
 use Rattle.run_report.specs.Status.{status_of}
-use Rattle.run_report.specs.declared.status.RunStatus.{RunStatus}
-use Rattle.run_report.specs.declared.status.RunStatus.TheVariants as run
 use Rattle.splitc_top.specs.Reasons.{reason_line, status_of_reason, IsTaken, IsOutside, Holds}
 use Rattle.splitc_top.specs.Words.{nodes_of}
 use Rattle.splitc_top.specs.declared.words.Command.{Command}
 use Rattle.splitc_top.specs.declared.words.Command.TheVariants.{Run}
 use Rattle.splitc_top.specs.declared.reason.Reason.{Reason}
-use Rattle.splitc_top.specs.declared.status.Status.{Status}
-use Rattle.splitc_top.specs.declared.status.Status.TheVariants.{Ended, Fault, Waiting, Cut, Words, Refused, Read}
-use Rattle.splitc_top.specs.declared.status.Status.TheVariants.{Write, Memory}
+use Rattle.run_report.specs.declared.status.Status.{Status}
+use Rattle.run_report.specs.declared.status.Status.TheVariants.{Ended, Fault, Waiting, Cut, Words, Refused, Read}
+use Rattle.run_report.specs.declared.status.Status.TheVariants.{Write, Memory}
 
 abbrev pub seed_of : Command → ℕ
 seed_of (Run nodes seed budget memory) = seed
@@ -61,12 +59,6 @@ pub record IsRunOf (program : Program) (seed : ℕ) (journal : List Entry) (show
 abbrev pub IsReport : Status → Type 0
 IsReport status = (status ≡ Ended) ⊎ (status ≡ Fault) ⊎ (status ≡ Waiting) ⊎ (status ≡ Cut)
 
-abbrev pub status_of_run : RunStatus → Status
-status_of_run run.Ended = Ended
-status_of_run run.Fault = Fault
-status_of_run run.Waiting = Waiting
-status_of_run run.Cut = Cut
-
 -- The source is accepted and built, and the text is the report of the seed's run of it.
 pub record IsReportOf (command : Command) (given text : List ℕ) (status : Status) : Type 0 where
   pub names : List Text
@@ -78,7 +70,7 @@ pub record IsReportOf (command : Command) (given text : List ℕ) (status : Stat
   pub shown : Outcome
   pub run : IsRunOf (program_by command typed layout) (seed_of command) journal shown
   pub text_is : text ≡ report names layout shown.ends shown.texts shown.memory (shows_memory command)
-  pub status_is : status ≡ status_of_run (status_of layout.nodes shown.ends)
+  pub status_is : status ≡ status_of layout.nodes shown.ends
 
 -- The source was read to its end, and the text reports a run of what it gave.
 pub record IsReported (command : Option Command) (before after : Option (List ℕ)) (text : List ℕ)

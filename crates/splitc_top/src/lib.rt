@@ -4,8 +4,9 @@
 mod job;
 mod line;
 pub mod reason;
-pub mod status;
 #[cfg(test)]
 mod tests;
 pub mod top;
 pub mod words;
+
+pub use run_report::Status;

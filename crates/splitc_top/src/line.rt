@@ -15,6 +15,7 @@ pub enum LineText {
 }
 
 impl LineText {
+    /// The bytes of the line, its newline among them.
     pub fn as_bytes(&self) -> &[u8]
         ensures { result.now ≡ bytes_of self.now }
     {

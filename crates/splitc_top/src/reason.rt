@@ -3,7 +3,7 @@
 ghost use Rattle.std.specs.Prelude.{◌≡◌, IfOk, string_bytes};
 ghost use Rattle.splitc_top.specs.Reasons.{refusal_line, status_of_reason};
 
-use crate::status::Status;
+use run_report::Status;
 use splitc_compile::Refusal;
 use std::alloc::{AllocError, Global};
 

@@ -1,9 +1,10 @@
 //! The program on whole sources. Expected texts are counted by hand.
 
 mod evaluation;
+mod examples;
 
-use crate::status::Status;
 use crate::top::top_still;
+use run_report::Status;
 use sc_io::{MemorySink, MemorySource, SteadySink, SteadySource};
 use std::alloc::{AllocError, Global};
 use std::process::Abort;

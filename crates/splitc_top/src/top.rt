@@ -5,16 +5,15 @@ ghost use Rattle.sc_base.specs.declared.limits.TheConstants.{LIMITS};
 ghost use Rattle.sc_tree.specs.ViewTypedTree.{plain_typed_tree};
 ghost use Rattle.tree_run.specs.Built.{is_built};
 ghost use Rattle.splitc_top.specs.Words.{command_of, nodes_of};
-ghost use Rattle.splitc_top.specs.Reasons.{IsTaken, Excuses, Holds};
-ghost use Rattle.splitc_top.specs.Top.{seed_of, budget_of, shows_memory, status_of_run};
+ghost use Rattle.splitc_top.specs.Reasons.{IsTaken, Excuses, Holds, reason_of};
+ghost use Rattle.splitc_top.specs.Top.{seed_of, budget_of, shows_memory};
 ghost use Rattle.splitc_top.specs.Top.{IsReportOf, IsReported, IsAnswer, stream};
 
 use crate::job::TreeJob;
 use crate::line::line_of;
 use crate::reason::{Reason, status_of_reason};
-use crate::status::Status;
 use crate::words::{Command, WordsError, read_words};
-use run_report::{RunStatus, report_text, status_of_results};
+use run_report::{Status, report_text, status_of_results};
 use run_sim::picks::SeedPicks;
 use run_sim::run::run_picks;
 use sc_base::{LIMITS, OutOfMemory};
@@ -30,18 +29,6 @@ use tree_run::is_built;
 struct Report {
     text: Vec<u8>,
     status: Status,
-}
-
-/// The status of a run that was reported.
-fn status_of_run(status: RunStatus) -> Status
-    ensures { result ≡ status_of_run status }
-{
-    match status {
-        RunStatus::Ended => Status::Ended,
-        RunStatus::Fault => Status::Fault,
-        RunStatus::Waiting => Status::Waiting,
-        RunStatus::Cut => Status::Cut,
-    }
 }
 
 /// How many nodes the command asks for.
@@ -73,7 +60,18 @@ fn shows_memory(command: Command) -> bool
     memory
 }
 
+/// Why a source that is not accepted has no report.
+fn reason_of(error: CompileError) -> Reason
+    ensures { result ≡ reason_of error }
+{
+    match error {
+        CompileError::Refused(refusal) => Reason::Refused(refusal),
+        CompileError::OutOfMemory => Reason::Memory,
+    }
+}
+
 /// The source as it is accepted for the command's nodes, or why it is not.
+#[tactic(auto, using(crate::proofs::Excused::excused))]
 fn accepted_of(alloc: Global, command: Command, source: &[u8]) -> Result<Accepted, Reason>
     requires some { 0 < nodes_of command }
     requires short { length source.now ≤ LIMITS.source }
@@ -81,11 +79,8 @@ fn accepted_of(alloc: Global, command: Command, source: &[u8]) -> Result<Accepte
         IsTaken (nodes_of command) source.now a.names (plain_typed_tree a.typed) a.layout) }
     ensures refused { IfErr result (λ e. Excuses (nodes_of command) source.now e) }
 {
-    match accept(alloc, source, nodes_of(command)) {
-        Ok(accepted) => Ok(accepted),
-        Err(CompileError::Refused(refusal)) => Err(Reason::Refused(refusal)),
-        Err(CompileError::OutOfMemory) => Err(Reason::Memory),
-    }
+    let accepted = accept(alloc, source, nodes_of(command)).map_err(reason_of)?;
+    Ok(accepted)
 }
 
 /// The report of the source that is accepted and built.
@@ -115,7 +110,7 @@ fn run_of(alloc: Global, command: Command, accepted: &Accepted) -> Result<Report
     )?;
     Ok(Report {
         text,
-        status: status_of_run(status_of_results(nodes)),
+        status: status_of_results(nodes),
     })
 }
 

@@ -7,7 +7,7 @@ use Rattle.run_report.specs.Memory.{held_in}
 use Rattle.run_report.specs.Report.{report, ends_in, texts_in}
 use Rattle.run_report.specs.Status.{status_of}
 use Rattle.splitc_top.specs.Jobs.{job_for}
-use Rattle.splitc_top.specs.Top.{seed_of, budget_of, shows_memory, status_of_run}
+use Rattle.splitc_top.specs.Top.{seed_of, budget_of, shows_memory}
 use Rattle.splitc_top.proofs.Told.{told}
 use Rattle.splitc_top.proofs.top.run_of.Goals as goal
 
@@ -30,9 +30,7 @@ returns c = λ source taken.
     c.as_slice-nodes.ensures
     ∙ ap (λ m. report names layout (ends_in run.nodes) (texts_in run.nodes) (held_in run.memory) m)
     c.shows_memory.ensures in
-    let status : c.status_of_run.result ≡ status_of_run (status_of (length run.nodes) (ends_in run.nodes)) =
-    c.status_of_run.ensures
-    ∙ ap status_of_run (c.status_of_results.ensures ∙ ap (λ n. status_of (length n) (ends_in n))
-    c.as_slice-nodes.ensures) in
-    told command source names typed layout picks run c.in_ok-text.text.items c.status_of_run.result
+    let status : c.status_of_results.result ≡ status_of (length run.nodes) (ends_in run.nodes) =
+    c.status_of_results.ensures ∙ ap (λ n. status_of (length n) (ends_in n)) c.as_slice-nodes.ensures in
+    told command source names typed layout picks run c.in_ok-text.text.items c.status_of_results.result
     taken c.requires.built c.count-objects.ensures.lawful words ran text status
