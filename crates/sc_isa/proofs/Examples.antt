@@ -245,3 +245,12 @@ misfit :
     ≡ record { events = Issue (Read first (Counter 1)) ∷ Wait 1 ∷ []; text = []; end = Short }
 unfolding place_in cells_of
 misfit = refl
+
+-- a site that the code does not have
+no_site : run_on 0 30 (code_of 0 (op.Null ∷ op.Read 4 ∷ ends) (lit< tt)) []
+    ≡ record { events = []; text = []; end = Ended_by Stuck }
+no_site = refl
+
+no_counter : run_on 0 30 (code_of 0 (op.Wait 4 ∷ ends) (lit< tt)) []
+    ≡ record { events = []; text = []; end = Ended_by Stuck }
+no_counter = refl

@@ -27,7 +27,7 @@ use Rattle.sc_isa.specs.Deeds.{Made, makes, faults, stuck, uses, sets, reads, wr
 use Rattle.sc_isa.specs.Deeds.{Done, lets_go, ends, sticks, clears, prints, fills, gets, misses, puts, sends, copies, waits, meets}
 use Rattle.sc_isa.specs.State.{Frame, State, landed, pushed, with_stack, with_left, land_frame}
 use Rattle.sc_isa.specs.Moves.{After, GoesOn, Ends, Sticks, Move, Comes, Issues, Waits, Meets, Says, Taken, taken, local_value, none_pending, counted, one_deeper, called, call_of, gain_done, act_done}
-use Rattle.sc_isa.specs.Table.{gained, acted, duplicated, dropped, swapped, jumped, returned, left_with, calls_row, prints_text, copy_track, does_op}
+use Rattle.sc_isa.specs.Table.{gained, acted, duplicated, dropped, swapped, jumped, returned, left_with, at_site, at_counter, calls_row, prints_text, copy_track, does_op}
 use Rattle.sc_isa.specs.Sound.{IsAfter, Lands, Leads, is_bounded}
 
 abbrev pub weight : State → ℕ
@@ -265,6 +265,17 @@ module _ (code : Code) (layout : Arrangement) (node : ℕ) where
   print_op None count line s = tt
   print_op (Some format) count line s = act_op (print format count) 0 (tracks.Counter 0) line s
 
+  site_weighs : (site w : ℕ) (move : Move) → MoveWeighs false w move → MoveWeighs false w (at_site code site move)
+  site_weighs site w move h =
+      elim (nat_lt 0 site && nat_le site code.sites) as
+      (λ b. MoveWeighs false w (if b then move else Comes Sticks)) [ true ↦ h | false ↦ tt ]
+
+  counter_weighs : (counter w : ℕ) (move : Move) → MoveWeighs false w move
+      → MoveWeighs false w (at_counter code counter move)
+  counter_weighs counter w move h =
+      elim (nat_le counter code.sites) as
+      (λ b. MoveWeighs false w (if b then move else Comes Sticks)) [ true ↦ h | false ↦ tt ]
+
   pub op_weighs : (o : Op) (line : ℕ) (s : State)
       → MoveWeighs (is_bounded o) (weight s) (does_op code layout node o line s)
   op_weighs (op.Push n) line s = gain_op (pure (push n)) 0 (tracks.Counter 0) line s tt
@@ -293,14 +304,14 @@ module _ (code : Code) (layout : Arrangement) (node : ℕ) where
   op_weighs (op.Call f) line s = call_op f line (slice_get code.functions f) s
   op_weighs op.Ret line s = left_weighs line s s.frame.stack
   op_weighs (op.Print t c) line s = print_op (slice_get code.texts t) c line s
-  op_weighs (op.Read x) line s = gain_op read x (tracks.Counter x) line s tt
-  op_weighs (op.Fill x l) line s = act_op (fill l) x (tracks.Counter x) line s
-  op_weighs (op.Write x) line s = gain_op write x (tracks.Counter x) line s tt
-  op_weighs (op.Store x) line s = gain_op write x tracks.Covered line s tt
-  op_weighs (op.Get x l) line s = act_op (get l) x (tracks.Counter 0) line s
-  op_weighs (op.Put x) line s = act_op put x (tracks.Counter 0) line s
-  op_weighs (op.Send x) line s = act_op send x tracks.Store line s
-  op_weighs (op.Copy x m) line s = act_op copy x (copy_track x m) line s
-  op_weighs (op.Wait c) line s = act_op (wait c) 0 (tracks.Counter 0) line s
+  op_weighs (op.Read x) line s = site_weighs x (weight s) _ (gain_op read x (tracks.Counter x) line s tt)
+  op_weighs (op.Fill x l) line s = site_weighs x (weight s) _ (act_op (fill l) x (tracks.Counter x) line s)
+  op_weighs (op.Write x) line s = site_weighs x (weight s) _ (gain_op write x (tracks.Counter x) line s tt)
+  op_weighs (op.Store x) line s = site_weighs x (weight s) _ (gain_op write x tracks.Covered line s tt)
+  op_weighs (op.Get x l) line s = site_weighs x (weight s) _ (act_op (get l) x (tracks.Counter 0) line s)
+  op_weighs (op.Put x) line s = site_weighs x (weight s) _ (act_op put x (tracks.Counter 0) line s)
+  op_weighs (op.Send x) line s = site_weighs x (weight s) _ (act_op send x tracks.Store line s)
+  op_weighs (op.Copy x m) line s = site_weighs x (weight s) _ (act_op copy x (copy_track x m) line s)
+  op_weighs (op.Wait c) line s = counter_weighs c (weight s) _ (act_op (wait c) 0 (tracks.Counter 0) line s)
   op_weighs op.Barrier line s = act_op (barrier false) 0 (tracks.Counter 0) line s
   op_weighs op.AllSync line s = act_op (barrier true) 0 (tracks.Counter 0) line s

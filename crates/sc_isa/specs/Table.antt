@@ -1,6 +1,6 @@
 -- The instruction table: what each instruction of the code does to a node's state, as one function to what comes
 -- next.
-use Rattle.std.specs.Prelude.{ℕ, zero, suc, ◌+◌, pos, Option, Some, None, Bool, true, false, List, [], ◌∷◌, slice_get}
+use Rattle.std.specs.Prelude.{ℕ, zero, suc, ◌+◌, pos, nat_lt, nat_le, ◌&&◌, if◌then◌else◌, Option, Some, None, Bool, true, false, List, [], ◌∷◌, slice_get}
 use Rattle.sc_base.specs.declared.value.CopyMode.{CopyMode}
 use Rattle.sc_base.specs.declared.value.CopyMode.TheVariants.{Blocking, Split, OneWay}
 use Rattle.sc_base.specs.declared.value.End.TheVariants.{Ended}
@@ -71,6 +71,14 @@ copy_track site Blocking = tracks.Counter site
 copy_track site Split = tracks.Counter 0
 copy_track site OneWay = tracks.Store
 
+-- the code has the site; sites are numbered from 1
+abbrev pub at_site : Code → (site : ℕ) → Move → Move
+at_site code site move = if nat_lt 0 site && nat_le site code.sites then move else Comes Sticks
+
+-- the code has the counter: 0, or that of a site
+abbrev pub at_counter : Code → (counter : ℕ) → Move → Move
+at_counter code counter move = if nat_le counter code.sites then move else Comes Sticks
+
 module _ (code : Code) (layout : Arrangement) (node : ℕ) where
   abbrev pub gains : Gain → (site : ℕ) → Track → (line : ℕ) → State → Move
   gains g site track line s = gained code layout node g site track line s (taken (takes g) [] s.frame.stack)
@@ -120,15 +128,15 @@ module _ (code : Code) (layout : Arrangement) (node : ℕ) where
   does_op (op.Call function) line s = calls_row function (slice_get code.functions function) line s
   does_op op.Ret line s = left_with line s s.frame.stack
   does_op (op.Print text count) line s = prints_text (slice_get code.texts text) count line s
-  does_op (op.Read site) line s = gains read site (tracks.Counter site) line s
-  does_op (op.Fill site local) line s = acts (fill local) site (tracks.Counter site) line s
-  does_op (op.Write site) line s = gains write site (tracks.Counter site) line s
-  does_op (op.Store site) line s = gains write site tracks.Covered line s
-  does_op (op.Get site local) line s = acts (get local) site (tracks.Counter 0) line s
-  does_op (op.Put site) line s = acts put site (tracks.Counter 0) line s
-  does_op (op.Send site) line s = acts send site tracks.Store line s
-  does_op (op.Copy site mode) line s = acts copy site (copy_track site mode) line s
-  does_op (op.Wait counter) line s = does (wait counter) line s
+  does_op (op.Read site) line s = at_site code site (gains read site (tracks.Counter site) line s)
+  does_op (op.Fill site local) line s = at_site code site (acts (fill local) site (tracks.Counter site) line s)
+  does_op (op.Write site) line s = at_site code site (gains write site (tracks.Counter site) line s)
+  does_op (op.Store site) line s = at_site code site (gains write site tracks.Covered line s)
+  does_op (op.Get site local) line s = at_site code site (acts (get local) site (tracks.Counter 0) line s)
+  does_op (op.Put site) line s = at_site code site (acts put site (tracks.Counter 0) line s)
+  does_op (op.Send site) line s = at_site code site (acts send site tracks.Store line s)
+  does_op (op.Copy site mode) line s = at_site code site (acts copy site (copy_track site mode) line s)
+  does_op (op.Wait counter) line s = at_counter code counter (does (wait counter) line s)
   does_op op.Barrier line s = does (barrier false) line s
   does_op op.AllSync line s = does (barrier true) line s
 
