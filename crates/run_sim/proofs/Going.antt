@@ -5,13 +5,13 @@ use Rattle.std.specs.Option.{option_map}
 use Rattle.std.proofs.lemmas.Bool.Decides.{eqb_tells}
 use Rattle.sc_base.specs.declared.value.Value.{Value}
 use Rattle.sc_base.specs.declared.value.End.{End}
-use Rattle.sc_meaning.specs.declared.stand.Stand.{Stand as StandStruct}
-use Rattle.sc_meaning.specs.declared.request.Request.{Request}
-use Rattle.sc_meaning.specs.declared.request.Request.TheVariants.{Read as ReadRequest, Write as WriteRequest}
-use Rattle.sc_meaning.specs.declared.request.Next.{Next}
-use Rattle.sc_meaning.specs.declared.request.Next.TheVariants.{Wants, Over}
-use Rattle.sc_meaning.specs.Doing.{stand}
-use Rattle.sc_meaning.specs.History.{and_answer, doing}
+use Rattle.tree_meaning.specs.declared.stand.Stand.{Stand as StandStruct}
+use Rattle.tree_meaning.specs.declared.request.Request.{Request}
+use Rattle.tree_meaning.specs.declared.request.Request.TheVariants.{Read as ReadRequest, Write as WriteRequest}
+use Rattle.tree_meaning.specs.declared.request.Next.{Next}
+use Rattle.tree_meaning.specs.declared.request.Next.TheVariants.{Wants, Over}
+use Rattle.tree_meaning.specs.Doing.{stand}
+use Rattle.tree_meaning.specs.History.{and_answer, doing}
 use Rattle.run_sim.specs.PlainOrder.{source_events}
 use Rattle.sc_layout.specs.Layout.{Arrangement}
 use Rattle.sc_layout.specs.Place.{IsPlace}

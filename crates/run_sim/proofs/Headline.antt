@@ -4,7 +4,7 @@ use Rattle.std.specs.Prelude.{IsSome, slice_get}
 use Rattle.std.proofs.lemmas.Bool.{cases_lt}
 use Rattle.std.proofs.lemmas.List.{reverse-reverse}
 use Rattle.sc_base.specs.declared.value.End.{End}
-use Rattle.sc_meaning.specs.History.{Program, IsHistory, outcome, printed}
+use Rattle.tree_meaning.specs.History.{Program, IsHistory, outcome, printed}
 use Rattle.run_sim.specs.declared.journal.Entry.{Entry}
 use Rattle.run_sim.specs.Asking.{Finish}
 use Rattle.run_sim.specs.Run.{Machine, LegalRun, IsRun, run_outcome, finished, said}

@@ -6,8 +6,8 @@ use borrow.Author.Count.{below_more}
 use Rattle.sc_base.specs.declared.value.Value.{Value}
 use Rattle.sc_base.specs.declared.value.Place.{Place}
 use Rattle.sc_base.specs.declared.value.End.{End}
-use Rattle.sc_meaning.specs.Doing.{next_request}
-use Rattle.sc_meaning.specs.History.{Program, shown, doing, requests, ended, Legal, Allowed}
+use Rattle.tree_meaning.specs.Doing.{next_request}
+use Rattle.tree_meaning.specs.History.{Program, shown, doing, requests, ended, Legal, Allowed}
 use Rattle.run_sim.specs.declared.journal.Access.{Access}
 use Rattle.run_sim.specs.declared.journal.Access.TheVariants.{Read, Write}
 use Rattle.run_sim.specs.declared.journal.Entry.{Entry}

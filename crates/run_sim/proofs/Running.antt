@@ -4,16 +4,16 @@ use Rattle.std.specs.Prelude.{slice_get, slice_set}
 use Rattle.std.proofs.lemmas.Bool.Decides.{eqb_tells}
 use Rattle.std.proofs.lemmas.Bool.{eq-eqb}
 use Rattle.sc_base.specs.declared.value.End.{End}
-use Rattle.sc_meaning.specs.declared.request.Request.{Request}
-use Rattle.sc_meaning.specs.declared.request.Request.TheVariants.{Read as ReadRequest, Write as WriteRequest}
-use Rattle.sc_meaning.specs.declared.stand.Stand.{Stand as StandStruct}
-use Rattle.sc_meaning.specs.declared.request.Answer.{Answer}
-use Rattle.sc_meaning.specs.declared.request.Next.TheVariants.{Wants, Over}
-use Rattle.sc_meaning.specs.Doing.{Doing, Asks, Prints, Stops, after, stand}
-use Rattle.sc_meaning.specs.History.{Program, doing}
+use Rattle.tree_meaning.specs.declared.request.Request.{Request}
+use Rattle.tree_meaning.specs.declared.request.Request.TheVariants.{Read as ReadRequest, Write as WriteRequest}
+use Rattle.tree_meaning.specs.declared.stand.Stand.{Stand as StandStruct}
+use Rattle.tree_meaning.specs.declared.request.Answer.{Answer}
+use Rattle.tree_meaning.specs.declared.request.Next.TheVariants.{Wants, Over}
+use Rattle.tree_meaning.specs.Doing.{Doing, Asks, Prints, Stops, after, stand}
+use Rattle.tree_meaning.specs.History.{Program, doing}
 use Rattle.sc_layout.specs.Layout.{Arrangement}
 use Rattle.run_sim.specs.Job.{IsPlacedNext}
-use Rattle.sc_meaning.proofs.Answers.{doing_is, stand_after, printed_is, requests_are}
+use Rattle.tree_meaning.proofs.Answers.{doing_is, stand_after, printed_is, requests_are}
 use Rattle.run_sim.specs.declared.journal.Access.{Access}
 use Rattle.run_sim.specs.declared.journal.Entry.{Entry}
 use Rattle.run_sim.specs.declared.journal.Entry.TheVariants.{Issued, Waited, Finished}

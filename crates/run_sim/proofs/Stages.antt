@@ -8,12 +8,12 @@ use Rattle.std.proofs.lemmas.List.{append-nil}
 use borrow.Author.Count.{below_more}
 use Rattle.sc_base.specs.declared.value.Value.{Value}
 use Rattle.sc_base.specs.declared.value.End.{End}
-use Rattle.sc_meaning.specs.declared.request.Request.{Request}
-use Rattle.sc_meaning.specs.declared.request.Request.TheVariants.{Read as ReadRequest, Write as WriteRequest}
-use Rattle.sc_meaning.specs.declared.request.Answer.{Answer}
-use Rattle.sc_meaning.specs.declared.request.Answer.TheVariants.{Noted}
-use Rattle.sc_meaning.specs.Doing.{Doing, Asks, Prints, Stops, answered, next_request, next_end, next_text}
-use Rattle.sc_meaning.specs.History.{Program, doing, answers, printed, requests}
+use Rattle.tree_meaning.specs.declared.request.Request.{Request}
+use Rattle.tree_meaning.specs.declared.request.Request.TheVariants.{Read as ReadRequest, Write as WriteRequest}
+use Rattle.tree_meaning.specs.declared.request.Answer.{Answer}
+use Rattle.tree_meaning.specs.declared.request.Answer.TheVariants.{Noted}
+use Rattle.tree_meaning.specs.Doing.{Doing, Asks, Prints, Stops, answered, next_request, next_end, next_text}
+use Rattle.tree_meaning.specs.History.{Program, doing, answers, printed, requests}
 use Rattle.run_sim.specs.declared.journal.Access.{Access}
 use Rattle.run_sim.specs.declared.journal.Access.TheVariants.{Read, Write}
 use Rattle.run_sim.specs.declared.journal.Track.TheVariants.{Counter, Store, Covered}

@@ -2,10 +2,10 @@
 use Rattle.std.specs.Prelude.{ℕ, List, [], ◌∷◌, ◌++◌}
 use Rattle.sc_base.specs.declared.value.Value.{Value}
 use Rattle.sc_base.specs.declared.value.End.{End}
-use Rattle.sc_meaning.specs.declared.request.Request.TheVariants.{Read as ReadRequest, Write as WriteRequest}
-use Rattle.sc_meaning.specs.declared.request.Answer.{Answer}
-use Rattle.sc_meaning.specs.declared.request.Answer.TheVariants.{Shown, Noted}
-use Rattle.sc_meaning.specs.Doing.{Doing, Asks, Prints, Stops}
+use Rattle.tree_meaning.specs.declared.request.Request.TheVariants.{Read as ReadRequest, Write as WriteRequest}
+use Rattle.tree_meaning.specs.declared.request.Answer.{Answer}
+use Rattle.tree_meaning.specs.declared.request.Answer.TheVariants.{Shown, Noted}
+use Rattle.tree_meaning.specs.Doing.{Doing, Asks, Prints, Stops}
 use Rattle.run_sim.specs.declared.journal.Access.{Access}
 use Rattle.run_sim.specs.declared.journal.Access.TheVariants.{Read, Write}
 use Rattle.run_sim.specs.declared.journal.Track.TheVariants.{Counter}

@@ -1,7 +1,7 @@
 -- A run of a job under way, and the steps that its nodes can take.
 use Rattle.std.specs.Prelude.{◌≡◌, ℕ, ◌+◌, List, [], ◌∷◌, ◌++◌, length, Bool, true, false, not, if◌then◌else◌, slice_get, Some}
-use Rattle.sc_meaning.specs.declared.request.Next.{Next}
-use Rattle.sc_meaning.specs.declared.request.Next.TheVariants.{Wants, Over}
+use Rattle.tree_meaning.specs.declared.request.Next.{Next}
+use Rattle.tree_meaning.specs.declared.request.Next.TheVariants.{Wants, Over}
 use Rattle.run_sim.specs.Job.{Job, program_in, machine_of}
 use Rattle.run_sim.specs.declared.journal.Entry.{Entry}
 use Rattle.run_sim.specs.declared.journal.Entry.TheVariants.{Issued, Waited, Finished}

@@ -5,11 +5,11 @@ use Rattle.sc_base.specs.declared.value.Place.{Place}
 use Rattle.sc_layout.specs.Layout.{Arrangement}
 use Rattle.sc_layout.specs.Place.{IsPlace}
 use Rattle.sc_layout.specs.Start.{start}
-use Rattle.sc_meaning.specs.declared.request.Request.TheVariants.{Read, Write}
-use Rattle.sc_meaning.specs.declared.request.Next.{Next}
-use Rattle.sc_meaning.specs.declared.request.Next.TheVariants.{Wants, Over}
-use Rattle.sc_meaning.specs.Doing.{Doing}
-use Rattle.sc_meaning.specs.History.{Program}
+use Rattle.tree_meaning.specs.declared.request.Request.TheVariants.{Read, Write}
+use Rattle.tree_meaning.specs.declared.request.Next.{Next}
+use Rattle.tree_meaning.specs.declared.request.Next.TheVariants.{Wants, Over}
+use Rattle.tree_meaning.specs.Doing.{Doing}
+use Rattle.tree_meaning.specs.History.{Program}
 use Rattle.run_sim.specs.Run.{Machine}
 use Rattle.run_sim.specs.PlainOrder.{plain_machine}
 

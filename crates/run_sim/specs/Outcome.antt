@@ -1,7 +1,7 @@
 -- When two runs show the same in the end.
 use Rattle.std.specs.Prelude.{◌≡◌, ℕ, ◌<◌}
 use Rattle.sc_base.specs.declared.value.Place.{Place}
-use Rattle.sc_meaning.specs.History.{Outcome}
+use Rattle.tree_meaning.specs.History.{Outcome}
 
 -- two outcomes of so many nodes are the same
 pub record SameOutcome (nodes : ℕ) (a b : Outcome) : Type 0 where

@@ -1,7 +1,7 @@
 -- The source history of a run whose accesses are each waited for at once, entry by entry. Both lists have the newest first.
 use Rattle.std.specs.Prelude.{ℕ, List, [], ◌∷◌, reverse, Option, Some, None, ◌==◌, if◌then◌else◌}
-use Rattle.sc_meaning.specs.declared.event.SourceEvent.{SourceEvent}
-use Rattle.sc_meaning.specs.declared.event.SourceEvent.TheVariants.{Do, End as Ends}
+use Rattle.tree_meaning.specs.declared.event.SourceEvent.{SourceEvent}
+use Rattle.tree_meaning.specs.declared.event.SourceEvent.TheVariants.{Do, End as Ends}
 use Rattle.run_sim.specs.declared.journal.Entry.{Entry}
 use Rattle.run_sim.specs.declared.journal.Entry.TheVariants.{Issued, Delivered, Finished}
 use Rattle.run_sim.specs.declared.journal.Access.{Access}
@@ -10,7 +10,7 @@ use Rattle.sc_base.specs.declared.value.Place.{Place}
 use Rattle.effect_order.specs.Effect.{Effect}
 use Rattle.run_sim.specs.Run.{effects, effect_of, place_of, access_at, Machine}
 use Rattle.run_sim.specs.Asking.{plain_asks}
-use Rattle.sc_meaning.specs.History.{Program}
+use Rattle.tree_meaning.specs.History.{Program}
 
 -- an access that has taken effect is one event of the source
 abbrev pub event_of : Effect → SourceEvent

@@ -5,7 +5,7 @@ use Rattle.sc_base.specs.declared.value.Value.TheVariants.{Null}
 use Rattle.sc_base.specs.declared.value.Place.{Place}
 use Rattle.sc_base.specs.declared.value.End.{End}
 use Rattle.effect_order.specs.Effect.{Effect, held}
-use Rattle.sc_meaning.specs.History.{Outcome}
+use Rattle.tree_meaning.specs.History.{Outcome}
 use Rattle.run_sim.specs.declared.journal.Access.{Access}
 use Rattle.run_sim.specs.declared.journal.Access.TheVariants.{Read, Write}
 use Rattle.run_sim.specs.declared.journal.Track.TheVariants.{Counter}

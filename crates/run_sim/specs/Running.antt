@@ -2,10 +2,10 @@
 -- the journal so far, whose newest entry comes first.
 use Rattle.std.specs.Prelude.{◌≡◌, ℕ, ◌+◌, List, [], ◌∷◌, length, Some, None}
 use Rattle.sc_base.specs.declared.value.End.{End}
-use Rattle.sc_meaning.specs.declared.request.Request.{Request}
-use Rattle.sc_meaning.specs.declared.request.Request.TheVariants.{Read as ReadRequest, Write as WriteRequest}
-use Rattle.sc_meaning.specs.Doing.{stand}
-use Rattle.sc_meaning.specs.History.{Program, answers, doing}
+use Rattle.tree_meaning.specs.declared.request.Request.{Request}
+use Rattle.tree_meaning.specs.declared.request.Request.TheVariants.{Read as ReadRequest, Write as WriteRequest}
+use Rattle.tree_meaning.specs.Doing.{stand}
+use Rattle.tree_meaning.specs.History.{Program, answers, doing}
 use Rattle.sc_layout.specs.Layout.{Arrangement}
 use Rattle.run_sim.specs.declared.journal.Access.{Access}
 use Rattle.run_sim.specs.declared.journal.Access.TheVariants.{Read, Write}

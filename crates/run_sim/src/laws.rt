@@ -1,7 +1,7 @@
 //! Laws of runs. Each function is a law: its contract says it, and its body is empty.
 
 ghost use Rattle.std.specs.Prelude.{◌≡◌, ℕ, List};
-ghost use Rattle.sc_meaning.specs.History.{Program, IsHistory, outcome};
+ghost use Rattle.tree_meaning.specs.History.{Program, IsHistory, outcome};
 ghost use Rattle.run_sim.specs.declared.journal.Entry.{Entry};
 ghost use Rattle.run_sim.specs.Run.{Machine, IsRun, run_outcome};
 ghost use Rattle.run_sim.specs.Simulation.{IsSimulation};

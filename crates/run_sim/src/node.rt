@@ -1,15 +1,15 @@
 //! What a run keeps of each node.
 
 ghost use Rattle.std.specs.Prelude.{◌≡◌, ◌++◌, ◌∷◌, [], OnOk};
-ghost use Rattle.sc_meaning.specs.History.{and_answer};
+ghost use Rattle.tree_meaning.specs.History.{and_answer};
 ghost use Rattle.run_sim.specs.declared.node.Phase.TheVariants.{Resting, Waiting, Finished};
 ghost use Rattle.run_sim.specs.Asking.{answer_by};
 
 use crate::journal::Access;
 use sc_base::{End, OutOfMemory, Value};
-use sc_meaning::request::Answer;
-use sc_meaning::stand::Stand;
 use sqlite_items::Items;
+use tree_meaning::request::Answer;
+use tree_meaning::stand::Stand;
 
 /// Whether a node stands between two accesses, waits on the counter of one, or has finished.
 #[derive(Clone, Copy, Debug, PartialEq, Eq)]

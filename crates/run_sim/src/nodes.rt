@@ -1,14 +1,14 @@
 //! What is to be run.
 
 ghost use Rattle.std.specs.Prelude.{◌≡◌, ◌<◌, [], IfOk};
-ghost use Rattle.sc_meaning.specs.Doing.{stand};
+ghost use Rattle.tree_meaning.specs.Doing.{stand};
 ghost use Rattle.run_sim.specs.Job.{Job, IsPlacedNext};
 
 use sc_base::OutOfMemory;
 use sc_layout::Layout;
-use sc_meaning::request::Answer;
-use sc_meaning::stand::Stand;
 use std::alloc::Global;
+use tree_meaning::request::Answer;
+use tree_meaning::stand::Stand;
 
 /// The nodes of a program to be run: where their cells lie, and where each stands under the answers to its requests.
 pub trait Nodes {

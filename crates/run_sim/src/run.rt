@@ -12,7 +12,7 @@ ghost use Rattle.run_sim.specs.Asking.{answer_by};
 ghost use Rattle.run_sim.specs.declared.journal.Message.{Message};
 ghost use Rattle.std.specs.Option.{option_map};
 ghost use Rattle.run_sim.specs.declared.node.Phase.TheVariants.{Resting, Waiting};
-ghost use Rattle.sc_meaning.specs.declared.request.Next.TheVariants.{Wants, Over};
+ghost use Rattle.tree_meaning.specs.declared.request.Next.TheVariants.{Wants, Over};
 ghost use Rattle.run_sim.specs.declared.node.Node.{Node as NodeRecord};
 
 use crate::journal::{Access, Track};
@@ -23,9 +23,9 @@ use crate::nodes::Nodes;
 use crate::picks::Picks;
 use crate::result::{Run, results_of};
 use sc_base::{End, OutOfMemory, Value};
-use sc_meaning::request::{Answer, Next, Request};
 use sqlite_items::Items;
 use std::alloc::Global;
+use tree_meaning::request::{Answer, Next, Request};
 
 /// A run under way.
 #[derive(Drop)]

@@ -10,7 +10,7 @@ use Rattle.sc_layout.specs.Layout.{Arrangement, IsLayout}
 use Rattle.sc_layout.specs.Place.{IsPlace}
 use Rattle.sc_layout.specs.Start.{start}
 use Rattle.effect_order.specs.Effect.{held}
-use Rattle.sc_meaning.specs.History.{Outcome}
+use Rattle.tree_meaning.specs.History.{Outcome}
 use Rattle.tree_run.specs.Built.{is_built}
 use Rattle.run_sim.specs.declared.journal.Entry.{Entry}
 use Rattle.run_sim.specs.declared.result.NodeResult.{NodeResult}

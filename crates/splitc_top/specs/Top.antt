@@ -7,7 +7,7 @@ use Rattle.sc_io.specs.Streams.{Rose, Gains}
 use Rattle.sc_tree.specs.Names.{Text}
 use Rattle.sc_tree.specs.PlainTypedTree.{PlainTypedTree}
 use Rattle.sc_layout.specs.Layout.{Arrangement}
-use Rattle.sc_meaning.specs.History.{Program, Outcome, IsHistory, outcome}
+use Rattle.tree_meaning.specs.History.{Program, Outcome, IsHistory, outcome}
 use Rattle.tree_run.specs.Built.{is_built}
 use Rattle.tree_run.specs.Program.{program_of}
 use Rattle.run_sim.specs.declared.journal.Entry.{Entry}

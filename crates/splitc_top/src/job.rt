@@ -3,10 +3,10 @@
 use run_sim::nodes::Nodes;
 use sc_base::OutOfMemory;
 use sc_layout::Layout;
-use sc_meaning::request::Answer;
-use sc_meaning::stand::Stand;
 use sc_tree::Typed;
 use std::alloc::Global;
+use tree_meaning::request::Answer;
+use tree_meaning::stand::Stand;
 use tree_run::stand_of;
 
 /// A typed source to be run over the layout of its objects. Each node may begin `budget` loop turns.

@@ -1,9 +1,9 @@
 -- A run of a whole body, after which the node ends.
 use Rattle.std.proofs.Common.{◌≡◌, ℕ, List, drop, ap}
 use Rattle.sc_base.specs.declared.value.End.TheVariants.{Ended}
-use Rattle.sc_meaning.specs.declared.request.Next.{Next}
-use Rattle.sc_meaning.specs.declared.request.Next.TheVariants.{Over}
-use Rattle.sc_meaning.specs.Doing.{Stops, stand}
+use Rattle.tree_meaning.specs.declared.request.Next.{Next}
+use Rattle.tree_meaning.specs.declared.request.Next.TheVariants.{Over}
+use Rattle.tree_meaning.specs.Doing.{Stops, stand}
 use Rattle.tree_run.specs.declared.node.Run.{Run}
 use Rattle.tree_run.specs.declared.node.Node.{Node}
 use Rattle.tree_run.specs.Does.{Does}

@@ -2,7 +2,7 @@
 use Rattle.std.proofs.Common.{◌≡◌, ℕ, refl, true, false, Ok, Err}
 use Rattle.sc_base.specs.declared.value.FaultKind.{FaultKind}
 use Rattle.sc_base.specs.declared.value.End.TheVariants.{Fault}
-use Rattle.sc_meaning.specs.Doing.{Stand}
+use Rattle.tree_meaning.specs.Doing.{Stand}
 use Rattle.tree_run.specs.declared.node.Run.{Run}
 use Rattle.tree_run.specs.declared.node.Node.{Node}
 use Rattle.tree_run.specs.Does.{Does, bind, pure, or_fault, stop, branch, turns_left}

@@ -12,10 +12,10 @@ use Rattle.sc_base.specs.declared.value.Value.TheVariants.{Int}
 use Rattle.sc_tree.specs.Names.{Text}
 use Rattle.sc_layout.specs.Layout.{Arrangement}
 use Rattle.sc_layout.specs.Pointer.{used_place, with_node}
-use Rattle.sc_meaning.specs.declared.request.Answer.{Answer}
-use Rattle.sc_meaning.specs.declared.request.Request.{Request}
-use Rattle.sc_meaning.specs.declared.request.Request.TheVariants.{Read, Write}
-use Rattle.sc_meaning.specs.Doing.{Doing, Asks, Prints, Stops}
+use Rattle.tree_meaning.specs.declared.request.Answer.{Answer}
+use Rattle.tree_meaning.specs.declared.request.Request.{Request}
+use Rattle.tree_meaning.specs.declared.request.Request.TheVariants.{Read, Write}
+use Rattle.tree_meaning.specs.Doing.{Doing, Asks, Prints, Stops}
 use Rattle.tree_run.specs.declared.found.Spot.{Spot}
 use Rattle.tree_run.specs.declared.found.Found.{Found}
 use Rattle.tree_run.specs.declared.found.Found.TheVariants as found

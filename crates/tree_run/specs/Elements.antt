@@ -12,11 +12,11 @@ use Rattle.sc_base.specs.declared.value.Value.{Value}
 use Rattle.sc_base.specs.declared.value.Value.TheVariants.{Int, Null, Ptr}
 use Rattle.sc_layout.specs.Layout.{Arrangement}
 use Rattle.sc_layout.specs.Place.{IsPlace, place_of, bound_at}
-use Rattle.sc_meaning.specs.declared.request.Answer.{Answer}
-use Rattle.sc_meaning.specs.declared.request.Answer.TheVariants.{Shown, Noted}
-use Rattle.sc_meaning.specs.declared.request.Request.TheVariants.{Read, Write}
-use Rattle.sc_meaning.specs.declared.request.Next.{Next}
-use Rattle.sc_meaning.specs.declared.request.Next.TheVariants.{Wants, Over}
+use Rattle.tree_meaning.specs.declared.request.Answer.{Answer}
+use Rattle.tree_meaning.specs.declared.request.Answer.TheVariants.{Shown, Noted}
+use Rattle.tree_meaning.specs.declared.request.Request.TheVariants.{Read, Write}
+use Rattle.tree_meaning.specs.declared.request.Next.{Next}
+use Rattle.tree_meaning.specs.declared.request.Next.TheVariants.{Wants, Over}
 
 abbrev pub bounds_of : Arrangement → ℕ → List ℕ
 bounds_of layout object = option_map_or (λ o. o.bounds) (slice_get layout.objects object) []

@@ -11,7 +11,7 @@ use Rattle.sc_base.specs.declared.value.Value.TheVariants.{Int, Null}
 use Rattle.sc_tree.specs.declared.typed.Named.TheVariants as named
 use Rattle.sc_tree.specs.PlainTyped.{TypedExpression, typed_expression, TypedForm, number, null, my_proc, procs, size_int, name, format, chain, both, either, choice, assign, step, plus, prefix, deref, address, cast, postfix, call, convert, printf, sync, barrier, all_store_sync, to_global, to_proc, to_local, bulk_read, bulk_write, bulk_get, bulk_put, bulk_store, TypedExpressions, no_expressions, expressions, TypedLink, link, TypedLinks, no_links, links, TypedTail, index, up, down, TypedTails, no_tails, tails}
 use Rattle.sc_layout.specs.Pointer.{with_node, global_of, node_of}
-use Rattle.sc_meaning.specs.Printing.{formatted}
+use Rattle.tree_meaning.specs.Printing.{formatted}
 use Rattle.tree_run.specs.declared.found.Spot.{Spot}
 use Rattle.tree_run.specs.declared.found.Found.{Found}
 use Rattle.tree_run.specs.declared.found.Found.TheVariants as found

@@ -6,9 +6,9 @@ use Rattle.sc_layout.specs.Layout.{Arrangement}
 use Rattle.sc_layout.specs.Start.{start}
 use Rattle.sc_tree.specs.PlainTypedStmt.{TypedStatements, no_statements}
 use Rattle.sc_tree.specs.PlainTypedTree.{PlainTypedFunction, PlainTypedTree}
-use Rattle.sc_meaning.specs.declared.request.Answer.{Answer}
-use Rattle.sc_meaning.specs.Doing.{Doing, Stops, RunOf, run_of}
-use Rattle.sc_meaning.specs.History.{Program}
+use Rattle.tree_meaning.specs.declared.request.Answer.{Answer}
+use Rattle.tree_meaning.specs.Doing.{Doing, Stops, RunOf, run_of}
+use Rattle.tree_meaning.specs.History.{Program}
 use Rattle.tree_run.specs.Does.{Setting}
 use Rattle.tree_run.specs.Statements.{all_statements, locals_of}
 

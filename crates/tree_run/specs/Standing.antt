@@ -1,6 +1,6 @@
 -- How a run stands on its way through a node's body: where a step leads from what is computed so far.
 use Rattle.std.specs.Prelude.{◌≡◌, drop, Result, Ok, Err}
-use Rattle.sc_meaning.specs.Doing.{Stand, stand}
+use Rattle.tree_meaning.specs.Doing.{Stand, stand}
 use Rattle.tree_run.specs.declared.node.Run.{Run}
 use Rattle.tree_run.specs.declared.node.Halt.{Halt}
 use Rattle.tree_run.specs.declared.node.Halt.TheVariants.{Comes, OutOfMemory}

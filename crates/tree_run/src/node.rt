@@ -1,7 +1,7 @@
 //! A node on its way: what it remembers, and the single steps of its run.
 
 ghost use Rattle.std.specs.Prelude.{◌≡◌, Bool, Ok, IfOk};
-ghost use Rattle.sc_meaning.specs.Printing.{formatted};
+ghost use Rattle.tree_meaning.specs.Printing.{formatted};
 ghost use Rattle.tree_run.specs.Elements.{IsPlacedNext, shown};
 ghost use Rattle.sc_layout.specs.Place.{IsPlace};
 ghost use Rattle.tree_run.specs.Does as does;
@@ -10,11 +10,11 @@ ghost use Rattle.tree_run.specs.Standing.{here_of, Reaches};
 use crate::found::{Found, Spot};
 use sc_base::{End, FaultKind, Place, Value};
 use sc_layout::Layout;
-use sc_meaning::printing::print_format;
-use sc_meaning::request::{Answer, Next, Request};
 use sc_tree::Texts;
 use sqlite_items::Items;
 use std::alloc::{AllocError, Global};
+use tree_meaning::printing::print_format;
+use tree_meaning::request::{Answer, Next, Request};
 
 /// Why a run goes no further.
 #[derive(Drop)]

@@ -2,7 +2,7 @@
 
 ghost use Rattle.std.specs.Prelude.{◌≡◌, [], pos, map, drop, replicate, IfOk};
 ghost use Rattle.sc_base.specs.declared.value.Value.TheVariants.{Int};
-ghost use Rattle.sc_meaning.specs.Doing.{Stops, stand};
+ghost use Rattle.tree_meaning.specs.Doing.{Stops, stand};
 ghost use Rattle.sc_tree.specs.ViewTypedTree.{plain_typed_tree, plain_typed_block, plain_typed_function};
 ghost use Rattle.tree_run.specs.Elements.{IsPlacedNext};
 ghost use Rattle.tree_run.specs.Program.{node_start, main_body};
@@ -13,11 +13,11 @@ use crate::locals::locals_of;
 use crate::node::{Halt, Node, Run};
 use sc_base::{Bytes, End, OutOfMemory, Value};
 use sc_layout::Layout;
-use sc_meaning::request::{Answer, Next};
-use sc_meaning::stand::Stand;
 use sc_tree::{Typed, TypedFunction, TypedStmt};
 use sqlite_items::Items;
 use std::alloc::Global;
+use tree_meaning::request::{Answer, Next};
+use tree_meaning::stand::Stand;
 
 /// Evaluates the source from its beginning on a node, with these answers to its requests in order, and says what the
 /// node has printed and what comes next. Node numbers count from 0, and at most `budget` turns of loops begin. What is

@@ -1,6 +1,6 @@
 use Rattle.std.proofs.Common.{◌≡◌, sym, ap, ◌∙◌, subst, length}
 use Rattle.run_sim.specs.declared.node.Node.{Node}
-use Rattle.sc_meaning.specs.History.{and_answer}
+use Rattle.tree_meaning.specs.History.{and_answer}
 use Rattle.run_sim.specs.declared.node.Phase.TheVariants.{Waiting as IsWaiting}
 use Rattle.run_sim.proofs.Steps.{get_is}
 use Rattle.run_sim.specs.declared.journal.Access.{Access}

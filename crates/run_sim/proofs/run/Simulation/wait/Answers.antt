@@ -5,7 +5,7 @@ use Rattle.run_sim.specs.Network.{Network}
 use Rattle.run_sim.specs.Going.{IsStepped}
 use Rattle.run_sim.proofs.Steps.{get_is}
 use Rattle.run_sim.specs.declared.node.Phase.TheVariants.{Resting as IsResting}
-use Rattle.sc_meaning.specs.Doing.{stand}
+use Rattle.tree_meaning.specs.Doing.{stand}
 use Rattle.run_sim.proofs.Going.{node_within, in_layout, waited}
 use Rattle.run_sim.proofs.run.Simulation.wait.Goals as goal
 

@@ -3,7 +3,7 @@ use Rattle.std.proofs.Common.{◌≡◌, ◌≢◌, ℕ, ◌+◌, ◌<◌, ◌�
 use Rattle.std.proofs.Math.ListN.{drop_of_length-le}
 use Rattle.std.proofs.Math.Seq.{drop-cons}
 use Rattle.std.specs.Fmt.{signed_decimal}
-use Rattle.sc_meaning.specs.Printing.{formatted}
+use Rattle.tree_meaning.specs.Printing.{formatted}
 
 -- the bytes that are left, where a `%` was read and stands open before them
 abbrev pub opened : Bool → List ℕ → List ℕ

@@ -1,10 +1,10 @@
 -- What the laws of runs speak of: whether every answer fits, and when a stand and a run under the same answers agree.
 use Rattle.std.specs.Prelude.{◌≡◌, List, [], ◌∷◌, ◌++◌, true}
-use Rattle.sc_meaning.specs.declared.request.Request.{Request}
-use Rattle.sc_meaning.specs.declared.request.Answer.{Answer}
-use Rattle.sc_meaning.specs.declared.request.Next.{Next}
-use Rattle.sc_meaning.specs.declared.request.Next.TheVariants.{Wants, Over}
-use Rattle.sc_meaning.specs.Doing.{Doing, Asks, Prints, Stops, RunOf, Ends, Short}
+use Rattle.tree_meaning.specs.declared.request.Request.{Request}
+use Rattle.tree_meaning.specs.declared.request.Answer.{Answer}
+use Rattle.tree_meaning.specs.declared.request.Next.{Next}
+use Rattle.tree_meaning.specs.declared.request.Next.TheVariants.{Wants, Over}
+use Rattle.tree_meaning.specs.Doing.{Doing, Asks, Prints, Stops, RunOf, Ends, Short}
 
 -- each answer that is used fits its request
 abbrev pub AllFit : Doing → List Answer → Type 0

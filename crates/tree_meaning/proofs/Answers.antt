@@ -3,12 +3,12 @@ use Rattle.std.proofs.Common.{◌≡◌, ℕ, ◌+◌, List, [], ◌∷◌, ◌+
 use Rattle.std.specs.Prelude.{if◌then◌else◌}
 use Rattle.std.proofs.lemmas.List.{append-nil}
 use Rattle.sc_base.specs.declared.value.End.{End}
-use Rattle.sc_meaning.specs.declared.request.Answer.{Answer}
-use Rattle.sc_meaning.specs.declared.request.Answer.TheVariants.{Shown, Noted}
-use Rattle.sc_meaning.specs.declared.event.SourceEvent.{SourceEvent}
-use Rattle.sc_meaning.specs.declared.event.SourceEvent.TheVariants.{Do, Issue, Effect, Sync, Arrive, Release, End as Ends}
-use Rattle.sc_meaning.specs.Doing.{Doing, Asks, Prints, Stops, answered, after, next_text, stand}
-use Rattle.sc_meaning.specs.History.{Program, answers, answer_to, and_answer, after_answer, doing, printed, and_then, requests}
+use Rattle.tree_meaning.specs.declared.request.Answer.{Answer}
+use Rattle.tree_meaning.specs.declared.request.Answer.TheVariants.{Shown, Noted}
+use Rattle.tree_meaning.specs.declared.event.SourceEvent.{SourceEvent}
+use Rattle.tree_meaning.specs.declared.event.SourceEvent.TheVariants.{Do, Issue, Effect, Sync, Arrive, Release, End as Ends}
+use Rattle.tree_meaning.specs.Doing.{Doing, Asks, Prints, Stops, answered, after, next_text, stand}
+use Rattle.tree_meaning.specs.History.{Program, answers, answer_to, and_answer, after_answer, doing, printed, and_then, requests}
 
 pub after-append : (d : Doing) (given : List Answer) (a : Answer) → after d (given ++ a ∷ []) ≡ answered (after d given) a
 after-append d [] a = refl

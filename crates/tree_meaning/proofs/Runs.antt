@@ -2,12 +2,12 @@
 use Rattle.std.proofs.Common.{◌≡◌, ℕ, List, [], ◌∷◌, ◌++◌, Bool, true, false, refl, sym, ap, ◌∙◌, append_assoc}
 use Rattle.std.specs.Prelude.{if◌then◌else◌}
 use Rattle.std.proofs.lemmas.List.{append-nil}
-use Rattle.sc_meaning.specs.declared.request.Request.{Request}
-use Rattle.sc_meaning.specs.declared.request.Answer.{Answer}
-use Rattle.sc_meaning.specs.declared.request.Next.{Next}
-use Rattle.sc_meaning.specs.declared.request.Next.TheVariants.{Wants, Over}
-use Rattle.sc_meaning.specs.Doing.{Doing, Asks, Prints, Stops, RunOf, Ends, Short, stand, run_of, after_request, after_text}
-use Rattle.sc_meaning.specs.Laws.{AllFit, Agrees}
+use Rattle.tree_meaning.specs.declared.request.Request.{Request}
+use Rattle.tree_meaning.specs.declared.request.Answer.{Answer}
+use Rattle.tree_meaning.specs.declared.request.Next.{Next}
+use Rattle.tree_meaning.specs.declared.request.Next.TheVariants.{Wants, Over}
+use Rattle.tree_meaning.specs.Doing.{Doing, Asks, Prints, Stops, RunOf, Ends, Short, stand, run_of, after_request, after_text}
+use Rattle.tree_meaning.specs.Laws.{AllFit, Agrees}
 
 -- a request and what it printed before belong to the run that goes on
 request_first : (next : Next) (request : Request) (run : RunOf) → Agrees next run → Agrees next (after_request request run)

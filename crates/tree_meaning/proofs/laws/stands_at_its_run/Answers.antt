@@ -1,6 +1,6 @@
 use Rattle.std.proofs.Common.{[]}
-use Rattle.sc_meaning.proofs.Runs.{stand_text, stand_next}
-use Rattle.sc_meaning.proofs.laws.stands_at_its_run.Goals as goal
+use Rattle.tree_meaning.proofs.Runs.{stand_text, stand_next}
+use Rattle.tree_meaning.proofs.laws.stands_at_its_run.Goals as goal
 
 pub returns : goal.returns
 returns c = record {

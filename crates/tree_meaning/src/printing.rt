@@ -2,7 +2,7 @@
 
 ghost use Rattle.std.specs.Prelude.{◌≡◌, ◌++◌, OnOk};
 ghost use Rattle.std.specs.Fmt.{signed_decimal};
-ghost use Rattle.sc_meaning.specs.Printing.{formatted};
+ghost use Rattle.tree_meaning.specs.Printing.{formatted};
 
 use itoa::Buffer;
 use std::alloc::AllocError;

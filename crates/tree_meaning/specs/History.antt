@@ -6,12 +6,12 @@ use Rattle.sc_base.specs.declared.value.Value.{Value}
 use Rattle.sc_base.specs.declared.value.Place.{Place}
 use Rattle.sc_base.specs.declared.value.End.{End}
 use Rattle.effect_order.specs.Effect.{held, Effect as CellEffect}
-use Rattle.sc_meaning.specs.declared.request.Request.TheVariants.{Read, Write}
-use Rattle.sc_meaning.specs.declared.event.SourceEvent.{SourceEvent}
-use Rattle.sc_meaning.specs.declared.event.SourceEvent.TheVariants.{Do, Effect, End as Ends}
-use Rattle.sc_meaning.specs.declared.request.Answer.{Answer}
-use Rattle.sc_meaning.specs.declared.request.Answer.TheVariants.{Shown, Noted}
-use Rattle.sc_meaning.specs.Doing.{Doing, answered, next_request, next_end, next_text}
+use Rattle.tree_meaning.specs.declared.request.Request.TheVariants.{Read, Write}
+use Rattle.tree_meaning.specs.declared.event.SourceEvent.{SourceEvent}
+use Rattle.tree_meaning.specs.declared.event.SourceEvent.TheVariants.{Do, Effect, End as Ends}
+use Rattle.tree_meaning.specs.declared.request.Answer.{Answer}
+use Rattle.tree_meaning.specs.declared.request.Answer.TheVariants.{Shown, Noted}
+use Rattle.tree_meaning.specs.Doing.{Doing, answered, next_request, next_end, next_text}
 
 -- how many nodes there are, what each cell holds before any write, and what each node does from its beginning
 pub record Program : Type 0 where

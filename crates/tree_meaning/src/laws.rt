@@ -1,10 +1,10 @@
 //! Laws of runs under answers. The functions do nothing: what they ensure is the law.
 
 ghost use Rattle.std.specs.Prelude.{◌≡◌, ℕ, List, [], ◌++◌};
-ghost use Rattle.sc_meaning.specs.declared.request.Request.{Request};
-ghost use Rattle.sc_meaning.specs.declared.request.Answer.{Answer};
-ghost use Rattle.sc_meaning.specs.Doing.{Doing, stand, run_of};
-ghost use Rattle.sc_meaning.specs.Laws.{AllFit, Agrees};
+ghost use Rattle.tree_meaning.specs.declared.request.Request.{Request};
+ghost use Rattle.tree_meaning.specs.declared.request.Answer.{Answer};
+ghost use Rattle.tree_meaning.specs.Doing.{Doing, stand, run_of};
+ghost use Rattle.tree_meaning.specs.Laws.{AllFit, Agrees};
 
 /// Where every answer fits, a node stands where its run under the answers came to: it has printed the same, and
 /// what comes next is the run's end, or the request at which the answers ran out.

@@ -1,7 +1,7 @@
 use Rattle.std.proofs.Common.{◌≡◌, ◌++◌, drop}
-use Rattle.sc_meaning.specs.Printing.{formatted}
-use Rattle.sc_meaning.proofs.Formats.{opened}
-use Rattle.sc_meaning.proofs.printing.print_format.Given as goal
+use Rattle.tree_meaning.specs.Printing.{formatted}
+use Rattle.tree_meaning.proofs.Formats.{opened}
+use Rattle.tree_meaning.proofs.printing.print_format.Given as goal
 
 abbrev pub invariant-loop-byte : goal.invariant-loop-byte
 invariant-loop-byte l =

@@ -1,7 +1,7 @@
 use Rattle.std.proofs.Common.{◌≡◌, arith}
-use Rattle.sc_meaning.proofs.Formats.{step_opens, step_plain, step_percent, step_value, step_other}
-use Rattle.sc_meaning.proofs.printing.print_format.Goals.{then-byte-eq37, else-byte-eq37+in_ok-push, in-37+in_ok-push-in-37, in-100+in_ok-push_decimal-in-100, in_default+in_ok-push-in_default+in_ok-push-in_default-2}
-use Rattle.sc_meaning.proofs.printing.print_format.Goals as goal
+use Rattle.tree_meaning.proofs.Formats.{step_opens, step_plain, step_percent, step_value, step_other}
+use Rattle.tree_meaning.proofs.printing.print_format.Goals.{then-byte-eq37, else-byte-eq37+in_ok-push, in-37+in_ok-push-in-37, in-100+in_ok-push_decimal-in-100, in_default+in_ok-push-in_default+in_ok-push-in_default-2}
+use Rattle.tree_meaning.proofs.printing.print_format.Goals as goal
 
 pub loop-byte-preserved-then-not-is_open : goal.loop-byte-preserved-then-not-is_open
 loop-byte-preserved-then-not-is_open c =
