@@ -49,7 +49,7 @@ module _ {E A S : Type 0} where
   extends (Asks event fits go) [] [] = unanswered_itself event
   extends (Asks event fits go) [] (m ∷ ms) =
       elim (fits m) as (λ b. Extends E S (unanswered event)
-          (if b then after_event event (run_of (go m) ms) else unanswered event)) [
+      (if b then after_event event (run_of (go m) ms) else unanswered event)) [
         | true ↦ after_unanswered event (run_of (go m) ms)
         | false ↦ unanswered_itself event
       ]

@@ -32,7 +32,7 @@ module _ {E A S : Type 0} where
   event_first event run o more f ih e =
       let m = mapped (event_before event) o f e in
       subst (λ (f : Followed E A S). after_event event run ≡ run_after f (run_of f.rest more)) m.gives
-          (ap (after_event event) (ih m.x m.was))
+      (ap (after_event event) (ih m.x m.was))
 
   text_first : (text : List ℕ) (run : RunOf E S) (o : Option (Followed E A S)) (more : List A) (f : Followed E A S)
       → ((g : Followed E A S) → o ≡ Some g → run ≡ run_after g (run_of g.rest more))
@@ -44,7 +44,7 @@ module _ {E A S : Type 0} where
       subst (λ (f : Followed E A S). after_text text run ≡ run_after f (run_of f.rest more)) m.gives
       (ap (after_text text) (ih g m.was)
       ∙ ap (λ (t : List ℕ). record { events = g.events ++ r.events; text = t; end = r.end })
-          (sym (append_assoc text g.text r.text)))
+      (sym (append_assoc text g.text r.text)))
 
   pub follows : (d : Doing E A S) (answers more : List A) (f : Followed E A S) → follow d answers ≡ Some f
       → run_of d (answers ++ more) ≡ run_after f (run_of f.rest more)
@@ -52,7 +52,7 @@ module _ {E A S : Type 0} where
   follows (Asks event fits go) (a ∷ as_) more f e =
       (elim (fits a) as (λ b. (if b then option_map (event_before event) (follow (go a) as_) else None) ≡ Some f
       → (if b then after_event event (run_of (go a) (as_ ++ more)) else unanswered event)
-          ≡ run_after f (run_of f.rest more)) [
+      ≡ run_after f (run_of f.rest more)) [
         | true ↦ λ h. event_first event (run_of (go a) (as_ ++ more)) (follow (go a) as_) more f
             (λ g w. follows (go a) as_ more g w) h
         | false ↦ λ h. absurd (cc)
@@ -60,11 +60,11 @@ module _ {E A S : Type 0} where
   follows (Makes event rest) [] more f e = begins (Makes event rest) more f e
   follows (Makes event rest) (a ∷ as_) more f e =
       event_first event (run_of rest (a ∷ (as_ ++ more))) (follow rest (a ∷ as_)) more f
-          (λ g w. follows rest (a ∷ as_) more g w) e
+      (λ g w. follows rest (a ∷ as_) more g w) e
   follows (Says text rest) [] more f e = begins (Says text rest) more f e
   follows (Says text rest) (a ∷ as_) more f e =
       text_first text (run_of rest (a ∷ (as_ ++ more))) (follow rest (a ∷ as_)) more f
-          (λ g w. follows rest (a ∷ as_) more g w) e
+      (λ g w. follows rest (a ∷ as_) more g w) e
   follows (Stops stop) [] more f e = begins (Stops stop) more f e
   follows (Stops stop) (a ∷ as_) more f e = absurd (cc)
 

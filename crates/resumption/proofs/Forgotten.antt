@@ -20,7 +20,7 @@ module _ {E O S : Type 0} (asked : E → O) (made : E → Option O) where
 if_made : {E O A S : Type 0} → (made : E → Option O) (event : E) (o : Option O) (rest : Doing O A S)
     (run : RunOf E S) (answers : List A)
     → made event ≡ o → run_of rest answers ≡ shown_run made run → run_of (made_if o rest) answers
-        ≡ shown_run made (after_event event run)
+    ≡ shown_run made (after_event event run)
 if_made made event None rest run answers e h = rw e h
 if_made made event (Some o) rest run answers e h = rw e (ap (after_event o) h)
 
@@ -31,7 +31,7 @@ module _ {E O A S : Type 0} (asked : E → O) (made : E → Option O) where
   forgets (Asks event fits go) [] h = shown_alone {S = S} asked made event h.0
   forgets (Asks event fits go) (a ∷ as_) h =
       elim (fits a) as (λ b. (if b then after_event (asked event) (run_of (forget asked made (go a)) as_) else
-          unanswered (asked event))
+      unanswered (asked event))
       ≡ shown_run made (if b then after_event event (run_of (go a) as_) else unanswered event)) [
         | true ↦ ap (after_event (asked event)) (forgets (go a) as_ (h.1 a))
             ∙ shown_event asked made event (run_of (go a) as_) h.0
@@ -39,6 +39,6 @@ module _ {E O A S : Type 0} (asked : E → O) (made : E → Option O) where
       ]
   forgets (Makes event rest) answers h =
       if_made made event (made event) (forget asked made rest) (run_of rest answers) answers refl
-          (forgets rest answers h)
+      (forgets rest answers h)
   forgets (Says text rest) answers h = ap (after_text text) (forgets rest answers h)
   forgets (Stops stop) answers h = refl

@@ -27,7 +27,7 @@ module _ (Event Answer Stop : Type 0) where
   FollowsAnswers =
       (doing : Doing Event Answer Stop) (answers more : List Answer) (followed : Followed Event Answer Stop)
       → follow doing answers ≡ Some followed → run_of doing (answers ++ more)
-          ≡ run_after followed (run_of followed.rest more)
+      ≡ run_after followed (run_of followed.rest more)
 
   -- where answers are not all taken, further ones change nothing
   abbrev pub StaysShort : Type 0
@@ -51,7 +51,7 @@ module _ (Event Answer Stop : Type 0) where
   abbrev pub BeginsWithNext : Type 0
   BeginsWithNext =
       (doing : Doing Event Answer Stop) (answers : List Answer) → slice_get (run_of doing answers).events 0
-          ≡ next_event doing
+      ≡ next_event doing
 
 -- forgetting leaves out, of every run, the events that are not shown
 abbrev pub ForgetsEvents : (Event Other Answer Stop : Type 0) → Type 0
