@@ -1,0 +1,7 @@
+pub mod Core
+pub mod Places
+pub mod Expressions
+pub mod Statements
+pub mod Lowering
+pub mod Kinds
+pub mod Typed
