@@ -98,8 +98,8 @@ unfoldable mutual
   found_form objects (chain first rest) line = value (joined objects (star_of first) (value_of objects first) rest)
   found_form objects (both all) line = value (every objects all)
   found_form objects (either all) line = value (any objects all)
-  found_form objects (choice_form test yes no) line =
-      value (choice (is_pointer (star_of test)) (value_of objects test) (value_of objects yes) (value_of objects no))
+  found_form objects (choice_form test on off) line =
+      value (choice (is_pointer (star_of test)) (value_of objects test) (value_of objects on) (value_of objects off))
   found_form objects (assign op left right) line =
       value (set_to op (found objects left) (star_of left) (value_of objects right) line)
   found_form objects (step_form is_up e) line =

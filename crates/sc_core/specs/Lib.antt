@@ -5,3 +5,4 @@ pub mod Statements
 pub mod Lowering
 pub mod Kinds
 pub mod Typed
+pub mod View

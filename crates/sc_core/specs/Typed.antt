@@ -19,10 +19,10 @@ module _ (objects : List Shape) (functions : List Function) (locals : List Kind)
     Has (constant c) kind = IsConstant c kind
     Has (step operation arguments line) kind =
         (kinds : List Kind) × Have arguments kinds × Takes objects functions locals operation kinds kind
-    Has (choice false test yes no) kind = Has test number × Has yes kind × Has no kind
-    Has (choice true test yes no) kind = (cell : List Star) × Has test (to cell) × Has yes kind × Has no kind
+    Has (choice false test on off) kind = Has test number × Has on kind × Has off kind
+    Has (choice true test on off) kind = (cell : List Star) × Has test (to cell) × Has on kind × Has off kind
     Has (update pointer operation right back line) kind =
-        (cell : List Star) (other : Kind) × (kind ≡ kind_of cell) × Has pointer (to cell) × Has right other
+        (cell : List Star) × (other : Kind) × (kind ≡ kind_of cell) × Has pointer (to cell) × Has right other
         × Takes objects functions locals operation (kind ∷ other ∷ []) kind × TakesBack back kind
 
     pub Have : Arguments → List Kind → Type 0
@@ -39,10 +39,10 @@ module _ (objects : List Shape) (functions : List Function) (locals : List Kind)
       IsTypedDoes result breaks continues first × IsTypedDoes result breaks continues second
   IsTypedDoes result breaks continues (act action arguments line) =
       (kinds : List Kind) × Have arguments kinds × Uses objects functions locals action kinds
-  IsTypedDoes result breaks continues (choose false test yes no) =
-      Has test number × IsTypedDoes result breaks continues yes × IsTypedDoes result breaks continues no
-  IsTypedDoes result breaks continues (choose true test yes no) =
-      (cell : List Star) × Has test (to cell) × IsTypedDoes result breaks continues yes × IsTypedDoes result breaks continues no
+  IsTypedDoes result breaks continues (choose false test on off) =
+      Has test number × IsTypedDoes result breaks continues on × IsTypedDoes result breaks continues off
+  IsTypedDoes result breaks continues (choose true test on off) =
+      (cell : List Star) × Has test (to cell) × IsTypedDoes result breaks continues on × IsTypedDoes result breaks continues off
   IsTypedDoes result breaks continues (loop mine before body after) =
       IsTypedDoes result true false before × IsTypedDoes result true true body × IsTypedDoes result true false after
   IsTypedDoes result breaks continues (return e line) = Has e result
