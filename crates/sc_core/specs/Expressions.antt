@@ -1,5 +1,5 @@
 -- The core of a typed expression, by its form and the last stars of its types.
-use Rattle.std.specs.Prelude.{ℕ, zero, suc, ◌+◌, pos, Bool, true, false, Option, Some, None, List, [], ◌∷◌}
+use Rattle.std.specs.Prelude.{ℕ, zero, suc, ◌+◌, pos, Bool, true, false, ◌&&◌, Option, Some, None, List, [], ◌∷◌}
 use Rattle.sc_base.specs.declared.operator.Binary.{Binary}
 use Rattle.sc_base.specs.declared.operator.Unary.TheVariants as unary
 use Rattle.sc_base.specs.declared.operator.Unary.{Unary}
@@ -7,12 +7,11 @@ use Rattle.sc_base.specs.declared.shape.Star.{Star}
 use Rattle.sc_base.specs.declared.shape.Shape.{Shape}
 use Rattle.sc_base.specs.declared.shape.Ty.{Ty}
 use Rattle.sc_tree.specs.declared.typed.Named.TheVariants as named
-use Rattle.sc_tree.specs.PlainTyped.{TypedExpression, typed_expression, TypedForm, number, null, my_proc, procs, size_int, name, format, chain, both, either, choice as choice_form, assign, step as step_form, plus, prefix, deref, address, cast, postfix, call, convert, printf, sync, barrier, all_store_sync, to_global, to_proc, to_local, bulk_read, bulk_write, bulk_get, bulk_put, bulk_store, TypedExpressions, no_expressions, expressions, TypedLink, link, TypedLinks, no_links, links, TypedTail, index, up, down, TypedTails, no_tails, tails}
+use Rattle.sc_tree.specs.PlainTyped.{TypedExpression, typed_expression, TypedForm, number, null, my_proc, procs, size_int, name, format, chain, both, either, choice as choice_form, assign, step as step_form, plus, prefix, deref, address, cast, postfix, call, convert, printf, sync, barrier, all_store_sync, to_global, to_proc, to_local, bulk_read, bulk_write, bulk_get, bulk_put, bulk_store, TypedExpressions, no_expressions, expressions, link, TypedLinks, no_links, links, TypedTail, index, up, down, TypedTails, no_tails, tails}
 use Rattle.sc_core.specs.declared.operation.Constant.TheVariants.{Number, Null, Mine, Procs}
-use Rattle.sc_core.specs.declared.operation.Operation.{Operation}
 use Rattle.sc_core.specs.declared.operation.Operation.TheVariants as does
 use Rattle.sc_core.specs.Core.{Core, constant, step, choice, Arguments, none, argument}
-use Rattle.sc_core.specs.Places.{last_of, is_pointer, number_one, number_zero, with_one, with_two, operation_on, star_after, step_operator, taken_back, converted, Found, value, local, cell, fetched, assigned, changed, changed_after, address_of, behind, object_with, dimensions_of}
+use Rattle.sc_core.specs.Places.{last_of, is_pointer, number_one, number_zero, with_one, with_two, operation_on, star_after, step_operator, taken_back, converted, Found, value, local, fetched, assigned, changed, changed_after, address_of, behind, object_with, dimensions_of, without_last}
 
 abbrev pub type_of : TypedExpression → Ty
 type_of (typed_expression form ty start at line) = ty
@@ -40,6 +39,23 @@ object_named (typed_expression form ty start at line) = object_in form
 abbrev pub line_of : TypedExpression → ℕ
 line_of (typed_expression form ty start at line) = line
 
+-- an index that is written with numbers, `MYPROC`, `PROCS`, locals and operators of two alone
+abbrev mutual
+  pub is_plain : TypedExpression → Bool
+  is_plain (typed_expression form ty start at line) = is_plain_form form
+
+  pub is_plain_form : TypedForm → Bool
+  is_plain_form (number n) = true
+  is_plain_form my_proc = true
+  is_plain_form procs = true
+  is_plain_form (name (named.Local x)) = true
+  is_plain_form (chain first rest) = is_plain first && are_plain rest
+  is_plain_form _ = false
+
+  pub are_plain : TypedLinks → Bool
+  are_plain no_links = true
+  are_plain (links (link op e at line) more) = is_plain e && are_plain more
+
 -- `-`, `!` or `~` of a value whose type has this last star
 abbrev pub prefixed : Unary → Option Star → Core → (line : ℕ) → Core
 prefixed unary.Not (Some s) e line = with_one does.IsNull e line
@@ -61,11 +77,6 @@ stepped_after what s is_up line =
     changed_after what (operation_on s (step_operator is_up)) (operation_on s (taken_back is_up)) line
 
 -- an index leads from a pointer to what it reaches, and a step leaves the type
-abbrev pub without_last : List Star → List Star
-without_last [] = []
-without_last (s ∷ []) = []
-without_last (s ∷ more) = s ∷ without_last more
-
 abbrev pub stars_behind : List Star → TypedTail → List Star
 stars_behind stars (index e at line) = without_last stars
 stars_behind stars (up at line) = stars
@@ -92,7 +103,7 @@ unfoldable mutual
   found_form objects procs line = value (constant Procs)
   found_form objects size_int line = value (constant (Number (pos 8)))
   found_form objects (name (named.Local x)) line = local x line
-  found_form objects (name (named.Object o)) line = object_with objects o 0 none line
+  found_form objects (name (named.Object o)) line = object_with objects o 0 true none line
   found_form objects (name (named.Function f)) line = value number_zero
   found_form objects (format f) line = value number_zero
   found_form objects (chain first rest) line = value (joined objects (star_of first) (value_of objects first) rest)
@@ -111,7 +122,7 @@ unfoldable mutual
   found_form objects (cast stars e) line = value (converted (star_of e) (last_of stars) (value_of objects e) line)
   found_form objects (postfix first all) line =
       with_object (object_named first)
-      (λ o. indices_found objects o (dimensions_of objects o) 0 none (line_of first) (type_of first).stars all)
+      (λ o. indices_found objects o (dimensions_of objects o) 0 true none (line_of first) (type_of first).stars all)
       (tails_found objects (found objects first) (type_of first).stars all)
   found_form objects (call (named.Function f) args) line =
       value (step (does.Call f (count_of args)) (values_of objects args) line)
@@ -152,14 +163,15 @@ unfoldable mutual
   any objects (expressions e more) = choice (is_pointer (star_of e)) (value_of objects e) number_one (any objects more)
 
   -- an object with so many indices, which takes as many more as are left
-  pub indices_found : List Shape → (o left count : ℕ) → Arguments → (line : ℕ) → (stars : List Star) → TypedTails → Found
-  indices_found objects o left count indices line stars no_tails = object_with objects o count indices line
-  indices_found objects o zero count indices line stars (tails t more) =
-      tails_found objects (tail_found objects (object_with objects o count indices line) stars t) (stars_behind stars t) more
-  indices_found objects o (suc left) count indices line stars (tails (index e at line_index) more) =
-      indices_found objects o left (count + 1) (behind_all indices (value_of objects e)) line_index stars more
-  indices_found objects o (suc left) count indices line stars (tails t more) =
-      tails_found objects (tail_found objects (object_with objects o count indices line) stars t) (stars_behind stars t) more
+  pub indices_found : List Shape → (o left count : ℕ) → (plain : Bool) → Arguments → (line : ℕ) → (stars : List Star) →
+      TypedTails → Found
+  indices_found objects o left count plain indices line stars no_tails = object_with objects o count plain indices line
+  indices_found objects o zero count plain indices line stars (tails t more) =
+      tails_found objects (tail_found objects (object_with objects o count plain indices line) stars t) (stars_behind stars t) more
+  indices_found objects o (suc left) count plain indices line stars (tails (index e at line_index) more) =
+      indices_found objects o left (count + 1) (plain && is_plain e) (behind_all indices (value_of objects e)) line_index stars more
+  indices_found objects o (suc left) count plain indices line stars (tails t more) =
+      tails_found objects (tail_found objects (object_with objects o count plain indices line) stars t) (stars_behind stars t) more
 
   -- what stands behind a part whose type has these stars
   pub tails_found : List Shape → Found → (stars : List Star) → TypedTails → Found

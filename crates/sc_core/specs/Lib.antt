@@ -6,3 +6,4 @@ pub mod Lowering
 pub mod Kinds
 pub mod Typed
 pub mod View
+pub mod ViewStatements

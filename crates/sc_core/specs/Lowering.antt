@@ -1,90 +1,19 @@
 -- The core of a typed statement and of a typed source. Locals are numbered in the order of the text: `next` is the
 -- number of the next local.
-use Rattle.std.specs.Prelude.{ℕ, suc, ◌+◌, ◌-◌, Bool, true, false, Option, Some, None, List, [], ◌∷◌, ◌++◌, length, drop, map, codes, if◌then◌else◌}
+use Rattle.std.specs.Prelude.{ℕ, suc, ◌+◌, ◌-◌, Option, Some, None, List, [], ◌∷◌, ◌++◌, length, drop, map, codes, if◌then◌else◌}
 use Rattle.std.specs.Str.{bytes_eq}
 use Rattle.sc_base.specs.declared.shape.Shape.{Shape}
 use Rattle.sc_base.specs.declared.shape.Ty.{Ty}
 use Rattle.sc_tree.specs.Names.{Text}
 use Rattle.sc_tree.specs.PlainTyped.{TypedExpression}
-use Rattle.sc_tree.specs.PlainTypedStmt.{TypedDeclared, TypedStatement, block, empty, declare, simple, split, choose as choose_arms, choose_else, while_, do_while, for_, for_mine, return as return_of, break as break_at, continue as continue_at, TypedStatements, no_statements, statements, TypedArm, arm, TypedArms, no_arms, arms}
+use Rattle.sc_tree.specs.PlainTypedStmt.{TypedStatement, block, empty, declare, simple, split, choose as choose_arms, choose_else, while_, do_while, for_, for_mine, return as return_of, break as break_at, continue as continue_at, TypedStatements, no_statements, statements, TypedArm, arm, TypedArms, no_arms, arms}
 use Rattle.sc_tree.specs.PlainTypedTree.{PlainTypedFunction, PlainTypedTree}
-use Rattle.sc_core.specs.Core.{Core, constant, Does, nothing, break, continue, then_, choose, loop, return, Function, Program}
+use Rattle.sc_core.specs.Core.{constant, Does, nothing, break, continue, then_, choose, loop, return, Function, Program}
 use Rattle.sc_core.specs.Places.{is_pointer}
 use Rattle.sc_core.specs.Expressions.{star_of, value_of, found}
-use Rattle.sc_core.specs.Statements.{zero_of, whole, optional, declared, splitting, tested, tested_if, mine_loop}
+use Rattle.sc_core.specs.Statements.{zero_of, whole, optional, declared, in_turn, splitting, tested, tested_if, mine_loop}
 
--- ---- statements
-
--- how many locals are declared in the statement
-abbrev mutual
-  pub locals_in : TypedStatement → ℕ
-  locals_in (block all) = locals_of all
-  locals_in empty = 0
-  locals_in (declare locals) = length locals
-  locals_in (simple e) = 0
-  locals_in (split left right one_way at line) = 0
-  locals_in (choose_arms all) = locals_of_arms all
-  locals_in (choose_else all otherwise) = locals_of_arms all + locals_in otherwise
-  locals_in (while_ test body) = locals_in body
-  locals_in (do_while body test) = locals_in body
-  locals_in (for_ first test next body) = locals_in body
-  locals_in (for_mine n bound body at line) = locals_in body
-  locals_in (return_of result at line) = 0
-  locals_in (break_at at) = 0
-  locals_in (continue_at at) = 0
-
-  pub locals_of : TypedStatements → ℕ
-  locals_of no_statements = 0
-  locals_of (statements s more) = locals_in s + locals_of more
-
-  pub locals_of_arm : TypedArm → ℕ
-  locals_of_arm (arm test body) = locals_in body
-
-  pub locals_of_arms : TypedArms → ℕ
-  locals_of_arms no_arms = 0
-  locals_of_arms (arms a more) = locals_of_arm a + locals_of_arms more
-
--- what `return` gives, which is 0 or null where it has no value
-abbrev pub returned : List Shape → (result : Ty) → Option TypedExpression → (line : ℕ) → Does
-returned objects result None line = return (constant (zero_of result)) line
-returned objects result (Some e) line = return (value_of objects e) line
-
-unfoldable mutual
-  pub does_of : List Shape → (result : Ty) → (next : ℕ) → TypedStatement → Does
-  does_of objects result next (block all) = all_of objects result next all
-  does_of objects result next empty = nothing
-  does_of objects result next (declare locals) = declared objects next locals
-  does_of objects result next (simple e) = whole objects e
-  does_of objects result next (split left right one_way at line) = splitting objects (found objects left) right one_way line
-  does_of objects result next (choose_arms all) = arms_of objects result next all nothing
-  does_of objects result next (choose_else all otherwise) =
-      arms_of objects result next all (does_of objects result (next + locals_of_arms all) otherwise)
-  does_of objects result next (while_ test body) =
-      loop None (tested objects test) (does_of objects result next body) nothing
-  does_of objects result next (do_while body test) =
-      loop None nothing (does_of objects result next body) (tested objects test)
-  does_of objects result next (for_ first test after body) =
-      then_ (optional objects first)
-      (loop None (tested_if objects test) (does_of objects result next body) (optional objects after))
-  does_of objects result next (for_mine n bound body at line) =
-      mine_loop n (value_of objects bound) (does_of objects result next body) line
-  does_of objects result next (return_of value at line) = returned objects result value line
-  does_of objects result next (break_at at) = break
-  does_of objects result next (continue_at at) = continue
-
-  pub all_of : List Shape → (result : Ty) → (next : ℕ) → TypedStatements → Does
-  all_of objects result next no_statements = nothing
-  all_of objects result next (statements s more) =
-      then_ (does_of objects result next s) (all_of objects result (next + locals_in s) more)
-
-  -- the arms of an `if`, and what is done where no test is true
-  pub arms_of : List Shape → (result : Ty) → (next : ℕ) → TypedArms → (otherwise : Does) → Does
-  arms_of objects result next no_arms otherwise = otherwise
-  arms_of objects result next (arms (arm test body) more) otherwise =
-      choose (is_pointer (star_of test)) (value_of objects test) (does_of objects result next body)
-      (arms_of objects result (next + locals_in body) more otherwise)
-
--- ---- the types of locals, in the order of their numbers
+-- ---- the types of the locals that are declared in a statement, in the order of their numbers
 
 abbrev mutual
   pub types_in : TypedStatement → List Ty
@@ -105,6 +34,48 @@ abbrev mutual
   pub types_of_arms : TypedArms → List Ty
   types_of_arms no_arms = []
   types_of_arms (arms (arm test body) more) = types_in body ++ types_of_arms more
+
+-- ---- statements
+
+-- what `return` gives, which is 0 or null where it has no value
+abbrev pub returned : List Shape → (result : Ty) → Option TypedExpression → (line : ℕ) → Does
+returned objects result None line = return (constant (zero_of result)) line
+returned objects result (Some e) line = return (value_of objects e) line
+
+unfoldable mutual
+  pub does_of : List Shape → (result : Ty) → (next : ℕ) → TypedStatement → Does
+  does_of objects result next (block all) = all_of objects result next all
+  does_of objects result next empty = nothing
+  does_of objects result next (declare locals) = declared objects next locals
+  does_of objects result next (simple e) = whole objects e
+  does_of objects result next (split left right one_way at line) = splitting objects (found objects left) right one_way line
+  does_of objects result next (choose_arms all) = arms_of objects result next all nothing
+  does_of objects result next (choose_else all otherwise) =
+      arms_of objects result next all (does_of objects result (next + length (types_of_arms all)) otherwise)
+  does_of objects result next (while_ test body) =
+      loop None (tested objects test) (does_of objects result next body) nothing
+  does_of objects result next (do_while body test) =
+      loop None nothing (does_of objects result next body) (tested objects test)
+  does_of objects result next (for_ first test after body) =
+      in_turn (optional objects first)
+      (loop None (tested_if objects test) (does_of objects result next body) (optional objects after))
+  does_of objects result next (for_mine n bound body at line) =
+      mine_loop n (value_of objects bound) (does_of objects result next body) line
+  does_of objects result next (return_of value at line) = returned objects result value line
+  does_of objects result next (break_at at) = break
+  does_of objects result next (continue_at at) = continue
+
+  pub all_of : List Shape → (result : Ty) → (next : ℕ) → TypedStatements → Does
+  all_of objects result next no_statements = nothing
+  all_of objects result next (statements s more) =
+      then_ (does_of objects result next s) (all_of objects result (next + length (types_in s)) more)
+
+  -- the arms of an `if`, and what is done where no test is true
+  pub arms_of : List Shape → (result : Ty) → (next : ℕ) → TypedArms → (otherwise : Does) → Does
+  arms_of objects result next no_arms otherwise = otherwise
+  arms_of objects result next (arms (arm test body) more) otherwise =
+      choose (is_pointer (star_of test)) (value_of objects test) (does_of objects result next body)
+      (arms_of objects result (next + length (types_in body)) more otherwise)
 
 -- ---- functions and sources
 

@@ -1,6 +1,6 @@
 -- What a typed expression comes to before it is used: a value, a local, or a cell; and how it is then read, written and
 -- changed. The lines are those at which a fault of the part is told.
-use Rattle.std.specs.Prelude.{ℕ, pos, ◌-◌, ◌+◌, Bool, true, false, Option, Some, None, List, [], ◌∷◌, length, slice_get, nat_eq, if◌then◌else◌}
+use Rattle.std.specs.Prelude.{ℕ, pos, ◌+◌, Bool, true, false, not, ◌&&◌, Option, Some, None, List, [], ◌∷◌, length, slice_get, nat_eq, if◌then◌else◌}
 use Rattle.std.specs.Option.{option_map_or}
 use Rattle.sc_base.specs.declared.operator.Binary.{Binary}
 use Rattle.sc_base.specs.declared.operator.Binary.TheVariants as op
@@ -70,9 +70,7 @@ taken_back false = op.Add
 
 -- a local pointer becomes a global or spread one
 abbrev pub converted : (from to : Option Star) → Core → (line : ℕ) → Core
-converted (Some star.Local) (Some star.Global) e line = with_one does.Convert e line
-converted (Some star.Local) (Some star.Spread) e line = with_one does.Convert e line
-converted from to e line = e
+converted from to e line = if is_own from && is_wide to then with_one does.Convert e line else e
 
 -- A value; a local, at the line of its name; or the cell behind a pointer, which is one of the executing node's own
 -- memory or names its node, and the line at which a plain read of the cell is told.
@@ -112,7 +110,7 @@ changed_after (cell pointer own at) operation back line = update (reaching own p
 
 -- an object's cell as a pointer to it
 abbrev pub exposed : Core → Core
-exposed (step (does.Element o count) indices line) = step (does.Address o count) indices line
+exposed (step (does.Element o count plain) indices line) = step (does.Address o count) indices line
 exposed pointer = pointer
 
 -- what `&` gives
@@ -120,6 +118,12 @@ abbrev pub address_of : Found → Core
 address_of (value e) = e
 address_of (local x line) = step (does.Use x) none line
 address_of (cell pointer own line) = exposed pointer
+
+-- the stars of what a pointer leads to
+abbrev pub without_last : List Star → List Star
+without_last [] = []
+without_last (s ∷ []) = []
+without_last (s ∷ more) = s ∷ without_last more
 
 -- the cell that a pointer with this last star leads to
 abbrev pub behind : Option Star → (pointer : Core) → (line : ℕ) → Found
@@ -132,13 +136,9 @@ dimensions_of objects o = option_map_or (λ s. length s.left + length s.right) (
 abbrev pub is_spread : List Shape → ℕ → Bool
 is_spread objects o = option_map_or (λ s. s.spread) (slice_get objects o) false
 
-abbrev pub opposite : Bool → Bool
-opposite true = false
-opposite false = true
-
 -- the object with so many indices: a cell where it has them all, and else the pointer to the first that remains
-abbrev pub object_with : List Shape → (object count : ℕ) → Arguments → (line : ℕ) → Found
-object_with objects o count indices line =
+abbrev pub object_with : List Shape → (object count : ℕ) → (plain : Bool) → Arguments → (line : ℕ) → Found
+object_with objects o count plain indices line =
     if nat_eq count (dimensions_of objects o)
-    then cell (step (does.Element o count) indices line) (opposite (is_spread objects o)) line
+    then cell (step (does.Element o count plain) indices line) (not (is_spread objects o)) line
     else value (step (does.Address o count) indices line)

@@ -1,5 +1,5 @@
--- The core of a typed statement. Locals are numbered in the order of the text: `next` is the number of the next local.
-use Rattle.std.specs.Prelude.{ℕ, zero, suc, ◌+◌, pos, Bool, true, false, Option, Some, None, List, [], ◌∷◌, ◌++◌, length}
+-- The core of what a typed statement is made of: whole expressions, declarations, split assignments and loops.
+use Rattle.std.specs.Prelude.{ℕ, ◌+◌, pos, Bool, true, false, Option, Some, None, List, [], ◌∷◌}
 use Rattle.sc_base.specs.declared.operator.Binary.TheVariants as op
 use Rattle.sc_base.specs.declared.shape.Shape.{Shape}
 use Rattle.sc_base.specs.declared.shape.Ty.{Ty}
@@ -7,32 +7,36 @@ use Rattle.sc_base.specs.declared.value.CopyMode.{CopyMode}
 use Rattle.sc_base.specs.declared.value.CopyMode.TheVariants.{Blocking, Split, OneWay}
 use Rattle.sc_tree.specs.declared.typed.Named.{Named}
 use Rattle.sc_tree.specs.declared.typed.Named.TheVariants as named
-use Rattle.sc_tree.specs.PlainTyped.{TypedExpression, typed_expression, TypedForm, assign, printf, sync, barrier, all_store_sync, bulk_read, bulk_write, bulk_get, bulk_put, bulk_store, TypedExpressions}
-use Rattle.sc_tree.specs.PlainTypedStmt.{TypedDeclared, TypedStatement, block, empty, declare, simple, split, choose as choose_arms, choose_else, while_, do_while, for_, for_mine, return as return_of, break as break_at, continue as continue_at, TypedStatements, no_statements, statements, TypedArm, arm, TypedArms, no_arms, arms}
+use Rattle.sc_tree.specs.PlainTyped.{TypedExpression, typed_expression, TypedForm, assign, printf, sync, barrier, all_store_sync, bulk_read, bulk_write, bulk_get, bulk_put, bulk_store}
+use Rattle.sc_tree.specs.PlainTypedStmt.{TypedDeclared}
 use Rattle.sc_core.specs.declared.operation.Constant.{Constant}
 use Rattle.sc_core.specs.declared.operation.Constant.TheVariants.{Number, Null, Mine, Procs}
 use Rattle.sc_core.specs.declared.operation.Operation.TheVariants as does
 use Rattle.sc_core.specs.declared.operation.Action.{Action}
 use Rattle.sc_core.specs.declared.operation.Action.TheVariants as acts
-use Rattle.sc_core.specs.Core.{Core, constant, step, Arguments, none, argument, Does, nothing, break, continue, then_, act, choose, loop, return}
-use Rattle.sc_core.specs.Places.{is_own, is_pointer, number_zero, with_two, Found, value, local, cell, reaching, fetched}
+use Rattle.sc_core.specs.Core.{Core, constant, step, none, argument, Does, nothing, break, then_, act, choose, loop}
+use Rattle.sc_core.specs.Places.{last_of, is_own, is_pointer, with_two, Found, value, local, cell, reaching, fetched}
 use Rattle.sc_core.specs.Expressions.{star_of, count_of, line_of, value_of, values_of, found}
 
-abbrev pub with_one : Action → Core → (line : ℕ) → Does
-with_one action e line = act action (argument e none) line
+abbrev pub act_on : Action → Core → (line : ℕ) → Does
+act_on action e line = act action (argument e none) line
 
 -- a local of this type that begins without a value, and what a function of this result gives without one
 abbrev pub has_star : Ty → Bool
-has_star ty = is_pointer (Rattle.sc_core.specs.Places.last_of ty.stars)
+has_star ty = is_pointer (last_of ty.stars)
 
 abbrev pub zero_of : Ty → Constant
 zero_of ty = elim (has_star ty) [ true ↦ Null | false ↦ Number (pos 0) ]
+
+-- one after the other
+abbrev pub in_turn : Does → Does → Does
+in_turn first second = then_ first (then_ second nothing)
 
 -- ---- whole expressions
 
 -- the local becomes what was found; where that is a cell, its value is read for the local alone
 abbrev pub filled : (local : ℕ) → Found → Does → (line : ℕ) → Does
-filled x (cell pointer own at) otherwise line = with_one (acts.Fill x) (reaching own pointer at) line
+filled x (cell pointer own at) otherwise line = act_on (acts.Fill x) (reaching own pointer at) line
 filled x _ otherwise line = otherwise
 
 abbrev pub assigning : Found → Found → Does → (line : ℕ) → Does
@@ -65,7 +69,7 @@ whole_form objects _ dropped line = dropped
 
 -- an expression whose value is let go
 abbrev pub dropped : List Shape → TypedExpression → Does
-dropped objects e = with_one acts.Drop (value_of objects e) (line_of e)
+dropped objects e = act_on acts.Drop (value_of objects e) (line_of e)
 
 abbrev pub whole : List Shape → TypedExpression → Does
 whole objects (typed_expression form ty start at line) =
@@ -79,7 +83,7 @@ optional objects (Some e) = dropped objects e
 
 abbrev pub begun : List Shape → (local : ℕ) → Ty → Option TypedExpression → (line : ℕ) → Does
 begun objects x ty None line = act (acts.Clear x (has_star ty)) none line
-begun objects x ty (Some e) line = filled x (found objects e) (with_one (acts.Begin x) (value_of objects e) line) line
+begun objects x ty (Some e) line = filled x (found objects e) (act_on (acts.Begin x) (value_of objects e) line) line
 
 abbrev pub declared : List Shape → (next : ℕ) → List TypedDeclared → Does
 declared objects next [] = nothing
@@ -100,7 +104,7 @@ put_or_send true = acts.Send
 put_or_send false = acts.Put
 
 abbrev pub splitting : List Shape → Found → TypedExpression → (one_way : Bool) → (line : ℕ) → Does
-splitting objects (local x at) right one_way line = with_one (acts.Get x) (placed (found objects right)) line
+splitting objects (local x at) right one_way line = act_on (acts.Get x) (placed (found objects right)) line
 splitting objects (cell pointer false at) right one_way line =
     act (put_or_send one_way) (argument pointer (argument (value_of objects right) none)) line
 splitting objects (cell pointer true at) right one_way line =
@@ -123,7 +127,7 @@ abbrev pub used : (local line : ℕ) → Core
 used x line = step (does.Use x) none line
 
 abbrev pub set_and_dropped : (local : ℕ) → Core → (line : ℕ) → Does
-set_and_dropped x e line = with_one acts.Drop (step (does.Set x) (argument e none) line) line
+set_and_dropped x e line = act_on acts.Drop (step (does.Set x) (argument e none) line) line
 
 abbrev pub mine_first : (local line : ℕ) → Does
 mine_first x line = set_and_dropped x (constant Mine) line
@@ -136,5 +140,5 @@ mine_next x line = set_and_dropped x (with_two (does.Binary op.Add) (used x line
 
 abbrev pub mine_loop : Named → (bound : Core) → Does → (line : ℕ) → Does
 mine_loop (named.Local x) bound body line =
-    then_ (mine_first x line) (loop (Some x) (mine_test x bound line) body (mine_next x line))
+    in_turn (mine_first x line) (loop (Some x) (mine_test x bound line) body (mine_next x line))
 mine_loop _ bound body line = nothing

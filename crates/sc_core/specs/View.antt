@@ -1,16 +1,9 @@
--- A core expression, statement or source of the code as plain data.
-use Rattle.std.specs.Prelude.{ℕ, Bool, List, [], ◌∷◌, map}
+-- A core expression of the code as plain data.
+use Rattle.std.specs.Prelude.{ℕ, Bool, List, [], ◌∷◌}
 use Rattle.sc_core.specs.declared.operation.Operation.{Operation}
 use Rattle.sc_core.specs.declared.expression.CoreExpr.{CoreExpr, fold-CoreExpr}
-use Rattle.sc_core.specs.declared.expression.CoreFirst.{CoreFirst}
-use Rattle.sc_core.specs.declared.expression.CoreLink.{CoreLink}
-use Rattle.sc_core.specs.declared.expression.CoreTest.{CoreTest}
 use Rattle.sc_core.specs.declared.expression.CoreFirst.TheOpen.{CoreFirst-F, CoreExpr-F, CoreLink-F, CoreTest-F}
-use Rattle.sc_core.specs.declared.statement.CoreStmt.{CoreStmt, fold-CoreStmt}
-use Rattle.sc_core.specs.declared.statement.CoreStmt.TheOpen.{CoreStmt-F, CoreArm-F}
-use Rattle.sc_core.specs.declared.statement.CoreFunction.{CoreFunction}
-use Rattle.sc_core.specs.declared.statement.CoreProgram.{CoreProgram}
-use Rattle.sc_core.specs.Core.{Core, constant, step, choice, update, Arguments, none, argument, Does, nothing, break, continue, then_, act, choose, loop, return, Function, Program}
+use Rattle.sc_core.specs.Core.{Core, constant, step, choice, update, Arguments, none, argument}
 use Rattle.sc_core.specs.Places.{number_one, number_zero}
 
 -- a step that is done with a value and the arguments behind it

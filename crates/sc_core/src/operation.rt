@@ -17,11 +17,19 @@ pub enum Constant {
 pub enum Operation {
     /// The value of the local; no argument.
     Use(u32),
-    /// The cell of the object with these indices, where it is accessed under its name.
-    Element { object: u32, count: u32 },
+    /// The cell of the object with these indices, where it is accessed under its name. `plain` tells that the
+    /// indices are written with numbers, `MYPROC`, `PROCS`, locals and operators of two alone.
+    Element {
+        object: u32,
+        count: u32,
+        plain: bool,
+    },
     /// The pointer to the cell of the object with these indices, as `&` gives it or an array that lacks its last
     /// index. The object is exposed.
-    Address { object: u32, count: u32 },
+    Address {
+        object: u32,
+        count: u32,
+    },
     /// A pointer of the executing node's own memory, as the place of an access or an argument of a bulk transfer.
     Own,
     /// A local pointer that becomes a global or spread one.
@@ -49,7 +57,10 @@ pub enum Operation {
     /// The local becomes the value, which is the step's value.
     Set(u32),
     /// The result of the function.
-    Call { function: u32, count: u32 },
+    Call {
+        function: u32,
+        count: u32,
+    },
     /// The value of the cell behind the pointer.
     Read,
     /// The cell behind the pointer becomes the value, which is the step's value. Pointer and value.
