@@ -7,3 +7,5 @@ pub mod Kinds
 pub mod Typed
 pub mod View
 pub mod ViewStatements
+pub mod Table
+pub mod Forms

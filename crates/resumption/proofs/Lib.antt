@@ -1,0 +1,4 @@
+pub mod Following
+pub mod Extending
+pub mod Next
+pub mod Forgotten

@@ -1,0 +1,3 @@
+pub mod Resumption
+pub mod Forgetting
+pub mod Laws

@@ -1,0 +1,11 @@
+pub mod Landing
+pub mod Fitting
+pub mod Pure
+pub mod Printing
+pub mod Deeds
+pub mod State
+pub mod Moves
+pub mod Table
+pub mod Run
+pub mod Sound
+pub mod Listing
