@@ -4,7 +4,8 @@ use Rattle.resumption.specs.Resumption.{Doing, Asks, Makes, Says, Stops, RunEnd,
 use Rattle.resumption.specs.Laws.{Extends}
 
 module _ {E S : Type 0} where
-  with_event : (event : E) (short long : RunOf E S) → Extends E S short long → Extends E S (after_event event short) (after_event event long)
+  with_event : (event : E) (short long : RunOf E S) → Extends E S short long
+      → Extends E S (after_event event short) (after_event event long)
   with_event event short long x = record {
     more_events = x.more_events;
     more_text = x.more_text;
@@ -13,7 +14,8 @@ module _ {E S : Type 0} where
     stopped = λ stop h. ap (after_event event) (x.stopped stop h);
   }
 
-  with_text : (text : List ℕ) (short long : RunOf E S) → Extends E S short long → Extends E S (after_text text short) (after_text text long)
+  with_text : (text : List ℕ) (short long : RunOf E S) → Extends E S short long
+      → Extends E S (after_text text short) (after_text text long)
   with_text text short long x = record {
     more_events = x.more_events;
     more_text = x.more_text;
@@ -42,10 +44,12 @@ module _ {E S : Type 0} where
   }
 
 module _ {E A S : Type 0} where
-  pub extends : (d : Doing E A S) (answers more : List A) → Extends E S (run_of d answers) (run_of d (answers ++ more))
+  pub extends : (d : Doing E A S) (answers more : List A)
+      → Extends E S (run_of d answers) (run_of d (answers ++ more))
   extends (Asks event fits go) [] [] = unanswered_itself event
   extends (Asks event fits go) [] (m ∷ ms) =
-      elim (fits m) as (λ b. Extends E S (unanswered event) (if b then after_event event (run_of (go m) ms) else unanswered event)) [
+      elim (fits m) as (λ b. Extends E S (unanswered event)
+          (if b then after_event event (run_of (go m) ms) else unanswered event)) [
         | true ↦ after_unanswered event (run_of (go m) ms)
         | false ↦ unanswered_itself event
       ]
@@ -55,8 +59,10 @@ module _ {E A S : Type 0} where
         | true ↦ with_event event (run_of (go a) as_) (run_of (go a) (as_ ++ more)) (extends (go a) as_ more)
         | false ↦ unanswered_itself event
       ]
-  extends (Makes event rest) answers more = with_event event (run_of rest answers) (run_of rest (answers ++ more)) (extends rest answers more)
-  extends (Says text rest) answers more = with_text text (run_of rest answers) (run_of rest (answers ++ more)) (extends rest answers more)
+  extends (Makes event rest) answers more =
+      with_event event (run_of rest answers) (run_of rest (answers ++ more)) (extends rest answers more)
+  extends (Says text rest) answers more =
+      with_text text (run_of rest answers) (run_of rest (answers ++ more)) (extends rest answers more)
   extends (Stops stop) answers more = record {
     more_events = [];
     more_text = [];

@@ -6,7 +6,8 @@ use Rattle.resumption.specs.Forgetting.{forget, AllAsked}
 
 -- the run that goes on from where answers were followed to
 abbrev pub run_after : {Event Answer Stop : Type 0} → Followed Event Answer Stop → RunOf Event Stop → RunOf Event Stop
-run_after followed run = record { events = followed.events ++ run.events; text = followed.text ++ run.text; end = run.end }
+run_after followed run = record
+    { events = followed.events ++ run.events; text = followed.text ++ run.text; end = run.end }
 
 -- the second run goes on where the first was short
 pub record Extends (Event Stop : Type 0) (short long : RunOf Event Stop) : Type 0 where
@@ -25,7 +26,8 @@ module _ (Event Answer Stop : Type 0) where
   abbrev pub FollowsAnswers : Type 0
   FollowsAnswers =
       (doing : Doing Event Answer Stop) (answers more : List Answer) (followed : Followed Event Answer Stop)
-      → follow doing answers ≡ Some followed → run_of doing (answers ++ more) ≡ run_after followed (run_of followed.rest more)
+      → follow doing answers ≡ Some followed → run_of doing (answers ++ more)
+          ≡ run_after followed (run_of followed.rest more)
 
   -- where answers are not all taken, further ones change nothing
   abbrev pub StaysShort : Type 0
@@ -48,7 +50,8 @@ module _ (Event Answer Stop : Type 0) where
   -- the first event of every run is the next one
   abbrev pub BeginsWithNext : Type 0
   BeginsWithNext =
-      (doing : Doing Event Answer Stop) (answers : List Answer) → slice_get (run_of doing answers).events 0 ≡ next_event doing
+      (doing : Doing Event Answer Stop) (answers : List Answer) → slice_get (run_of doing answers).events 0
+          ≡ next_event doing
 
 -- forgetting leaves out, of every run, the events that are not shown
 abbrev pub ForgetsEvents : (Event Other Answer Stop : Type 0) → Type 0

@@ -12,7 +12,8 @@ pub data Doing (Event Answer Stop : Type 0) : Type 0 where
   Says : List ℕ → Doing Event Answer Stop → Doing Event Answer Stop
   Stops : Stop → Doing Event Answer Stop
 
--- How a run under a list of answers ends: with the stop, or short of it, where the answers ran out or one did not fit.
+-- How a run under a list of answers ends: with the stop, or short of it, where the answers ran out or one did not
+-- fit.
 pub data RunEnd (Stop : Type 0) : Type 0 where
   Ends : Stop → RunEnd Stop
   Short : RunEnd Stop
@@ -68,17 +69,20 @@ pub record Followed (Event Answer Stop : Type 0) : Type 0 where
   pub text : List ℕ
   pub rest : Doing Event Answer Stop
 
-abbrev pub event_before : {Event Answer Stop : Type 0} → Event → Followed Event Answer Stop → Followed Event Answer Stop
+abbrev pub event_before : {Event Answer Stop : Type 0} → Event → Followed Event Answer Stop
+    → Followed Event Answer Stop
 event_before event followed = record followed { events = event ∷ followed.events }
 
-abbrev pub text_before : {Event Answer Stop : Type 0} → List ℕ → Followed Event Answer Stop → Followed Event Answer Stop
+abbrev pub text_before : {Event Answer Stop : Type 0} → List ℕ → Followed Event Answer Stop
+    → Followed Event Answer Stop
 text_before text followed = record followed { text = text ++ followed.text }
 
 abbrev pub begun : {Event Answer Stop : Type 0} → Doing Event Answer Stop → Followed Event Answer Stop
 begun doing = record { events = []; text = []; rest = doing }
 
 -- up to the last of the answers: None where one of them is not asked for or does not fit
-abbrev pub follow : {Event Answer Stop : Type 0} → Doing Event Answer Stop → List Answer → Option (Followed Event Answer Stop)
+abbrev pub follow : {Event Answer Stop : Type 0} → Doing Event Answer Stop → List Answer
+    → Option (Followed Event Answer Stop)
 follow (Asks event fits go) [] = Some (begun (Asks event fits go))
 follow (Asks event fits go) (answer ∷ answers) =
     if fits answer then option_map (event_before event) (follow (go answer) answers) else None

@@ -1,7 +1,6 @@
--- What a step does with its values: one table for the machine, whose instructions are these steps, and for the meaning
--- of a source. Tests of null, of extents and of kinds of values stand here, in their order.
+-- What a step does with its values: one table for the machine, whose instructions are these steps, and for the
+-- meaning of a source. Tests of null, of extents and of kinds of values stand here, in their order.
 use Rattle.std.specs.Prelude.{ℕ, zero, suc, ◌+◌, ◌/◌, ◌%◌, ◌==◌, ℤ, pos, negsuc, nat_le, if◌then◌else◌, Option, Some, None, Result, Ok, Err, Bool, ◌&&◌, List, [], ◌∷◌}
-use Rattle.sc_base.specs.declared.value.CopyMode.{CopyMode}
 use Rattle.sc_base.specs.declared.value.FaultKind.{FaultKind}
 use Rattle.sc_base.specs.declared.value.FaultKind.TheVariants.{Index, NullUse, BadSize}
 use Rattle.sc_base.specs.declared.value.Place.{Place}
@@ -10,54 +9,13 @@ use Rattle.sc_base.specs.declared.value.Value.TheVariants.{Int, Null, Ptr}
 use Rattle.sc_layout.specs.Layout.{Arrangement}
 use Rattle.sc_layout.specs.Place.{extent_of}
 use Rattle.sc_layout.specs.Pointer.{used_place}
-use Rattle.sc_isa.specs.Pure.{Pure, arity, Outcome, gives, fails, wrong, is_pointer, ints, computed}
+use Rattle.sc_isa.specs.Pure.{Outcome, gives, fails, wrong, is_pointer, ints, computed}
 use Rattle.sc_isa.specs.Printing.{formatted}
+pub use Rattle.sc_isa.specs.Steps.{Gain, pure, load, set, read, write, call, takes}
+pub use Rattle.sc_isa.specs.Steps.{Act, drop, clear, print, fill, get, put, send, copy, wait, barrier, uses_up}
 
--- a step that leaves one value
-pub data Gain : Type 0 where
-  pure : Pure → Gain
-  load set : ℕ → Gain
-  read write : Gain
-  -- of a function with so many parameters
-  call : (function count : ℕ) → Gain
-
--- a step that leaves none
-pub data Act : Type 0 where
-  drop : Act
-  clear : (local : ℕ) → (pointer : Bool) → Act
-  -- by a format, with so many values
-  print : (format : List ℕ) → (count : ℕ) → Act
-  fill get : (local : ℕ) → Act
-  put send : Act
-  copy : Act
-  -- on a counter, which is 0 for explicit gets and puts
-  wait : (counter : ℕ) → Act
-  -- stores: all one-way stores are waited for too
-  barrier : (stores : Bool) → Act
-
--- how many values they take
-abbrev pub takes : Gain → ℕ
-takes (pure op) = arity op
-takes (load local) = 0
-takes (set local) = 1
-takes read = 1
-takes write = 2
-takes (call function count) = count
-
-abbrev pub uses_up : Act → ℕ
-uses_up drop = 1
-uses_up (clear local pointer) = 0
-uses_up (print format count) = count
-uses_up (fill local) = 1
-uses_up (get local) = 1
-uses_up put = 2
-uses_up send = 2
-uses_up copy = 3
-uses_up (wait counter) = 0
-uses_up (barrier stores) = 0
-
--- what a step that leaves a value does: it makes the value, is a fault, or is stuck at values of a wrong kind or number;
--- it uses a local, or sets it to the value; it reads a place, or writes the value there; it calls a function
+-- what a step that leaves a value does: it makes the value, is a fault, or is stuck at values of a wrong kind or
+-- number; it uses a local, or sets it to the value; it reads a place, or writes the value there; it calls a function
 pub data Made : Type 0 where
   makes : Value → Made
   faults : FaultKind → Made
@@ -106,7 +64,9 @@ spotted layout pointer = if is_pointer layout pointer then place_or_fault (used_
 -- the place from which the pointer is used for so many cells
 abbrev pub spanned : Arrangement → (cells : ℕ) → Value → Result Place FaultKind
 spanned layout cells (Ptr object node offset) =
-    if nat_le (offset + cells) (extent_of layout node object) then Ok (record { object = object; node = node; offset = offset }) else Err Index
+    if nat_le (offset + cells) (extent_of layout node object)
+    then Ok (record { object = object; node = node; offset = offset })
+    else Err Index
 spanned layout cells value = Err NullUse
 
 -- ---- what each step does

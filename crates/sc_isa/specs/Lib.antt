@@ -1,11 +1,16 @@
+pub mod Short
 pub mod Landing
 pub mod Fitting
+pub mod Elements
 pub mod Pure
 pub mod Printing
+pub mod Steps
 pub mod Deeds
 pub mod State
 pub mod Moves
 pub mod Table
+pub mod Begin
 pub mod Run
 pub mod Sound
 pub mod Listing
+pub mod Laws

@@ -1,5 +1,5 @@
--- The listing of code: a line for each instruction, and one before the first instruction of each function. The texts are
--- this project's own.
+-- The listing of code: a line for each instruction, and one before the first instruction of each function. The texts
+-- are this project's own.
 use Rattle.std.specs.Prelude.{ℕ, ◌+◌, ◌==◌, ℤ, pos, Option, Some, None, List, [], ◌∷◌, ◌++◌, if◌then◌else◌, codes}
 use Rattle.std.specs.Fmt.{decimal, signed_decimal}
 use Rattle.sc_base.specs.declared.operator.Binary.{Binary}
@@ -14,7 +14,7 @@ use Rattle.sc_isa.specs.declared.op.Instr.{Instr}
 use Rattle.sc_isa.specs.declared.op.Op.{Op}
 use Rattle.sc_isa.specs.declared.op.Op.TheVariants.{Push, Null, Mine, Procs, Elem, Step, Glob, ToLocal, ToProc, ToGlobal, Load, Set, Clear, Dup, Drop, Swap}
 use Rattle.sc_isa.specs.declared.op.Op.TheVariants.{Bin, Un, Same, Truth, Jump, Zero, Turn, Call, Ret, Print, Read, Fill, Write, Store, Get, Put, Send, Copy, Wait, Barrier, AllSync}
-use Rattle.sc_isa.specs.Table.{names}
+use Rattle.sc_isa.specs.Begin.{names}
 
 -- the number of an operator in the order of its kind
 abbrev pub binary_number : Binary → ℕ

@@ -1,5 +1,5 @@
--- What comes of a step: what it does to a node's state, and what it asks. Operands are taken first; then come the tests, in
--- the order in which the instruction table lists its faults; and then its event.
+-- What comes of a step: what it does to a node's state, and what it asks. Operands are taken first; then come the
+-- tests, in the order in which the instruction table lists its faults; and then its event.
 use Rattle.std.specs.Prelude.{ℕ, zero, suc, ◌+◌, nat_lt, if◌then◌else◌, Option, Some, None, Bool, List, [], ◌∷◌, length, slice_get}
 use Rattle.sc_base.specs.declared.limits.TheConstants.{LIMITS}
 use Rattle.sc_base.specs.declared.value.End.{End}
@@ -27,8 +27,8 @@ pub data After : Type 0 where
   Ends : End → After
   Sticks : After
 
--- What an instruction does: it comes to something; or issues an access first; or waits on a counter, and goes on in the
--- state when the values have landed in it; or meets all nodes at a barrier; or says a text.
+-- What an instruction does: it comes to something; or issues an access first; or waits on a counter, and goes on in
+-- the state when the values have landed in it; or meets all nodes at a barrier; or says a text.
 pub data Move : Type 0 where
   Comes : After → Move
   Issues : Access → After → Move
@@ -91,7 +91,8 @@ call_of row arguments s = record {
 
 abbrev pub called : (line : ℕ) → Option FnRow → List Value → State → After
 called line None arguments s = Sticks
-called line (Some row) arguments s = counted s.left (λ left. one_deeper line s (GoesOn (call_of row arguments (with_left left s))))
+called line (Some row) arguments s =
+    counted s.left (λ left. one_deeper line s (GoesOn (call_of row arguments (with_left left s))))
 
 abbrev pub gain_done : Code → (site : ℕ) → Track → (line : ℕ) → State → Made → Move
 gain_done code site track line s (makes value) = Comes (GoesOn (pushed (Here value) s))
@@ -100,22 +101,27 @@ gain_done code site track line s stuck = Comes Sticks
 gain_done code site track line s (uses local) = used line local s (λ value. Comes (GoesOn (pushed (Here value) s)))
 gain_done code site track line s (sets local value) =
     used line local s (λ old. Comes (GoesOn (pushed (Here value) (with_local local (Holds (Here value)) s))))
-gain_done code site track line s (reads place) = Issues (access.Read place (tracks.Counter site)) (GoesOn (reading_in site s place))
-gain_done code site track line s (writes place value) = Issues (access.Write place value track) (GoesOn (pushed (Here value) s))
-gain_done code site track line s (calls function arguments) = Comes (called line (slice_get code.functions function) arguments s)
+gain_done code site track line s (reads place) =
+    Issues (access.Read place (tracks.Counter site)) (GoesOn (reading_in site s place))
+gain_done code site track line s (writes place value) =
+    Issues (access.Write place value track) (GoesOn (pushed (Here value) s))
+gain_done code site track line s (calls function arguments) =
+    Comes (called line (slice_get code.functions function) arguments s)
 
 abbrev pub act_done : (site : ℕ) → Track → (line : ℕ) → State → Done → Move
 act_done site track line s lets_go = Comes (GoesOn s)
 act_done site track line s (ends kind) = Comes (Ends (Fault kind line))
 act_done site track line s sticks = Comes Sticks
-act_done site track line s (clears local value) = used line local s (λ old. Comes (GoesOn (with_local local (Holds (Here value)) s)))
+act_done site track line s (clears local value) =
+    used line local s (λ old. Comes (GoesOn (with_local local (Holds (Here value)) s)))
 act_done site track line s (prints text) = Says text s
 act_done site track line s (fills local place) =
     Issues (access.Read place (tracks.Counter site))
     (local_value (λ after. after) line (slice_get s.frame.locals local)
     (λ old. GoesOn (with_local local (Holds (Landing site (next_number site s))) (flown site place s))))
 act_done site track line s (gets local place) =
-    used line local s (λ old. Issues (access.Read place (tracks.Counter 0)) (GoesOn (with_local local (Pending (next_number 0 s)) (flown 0 place s))))
+    used line local s (λ old. Issues (access.Read place (tracks.Counter 0))
+    (GoesOn (with_local local (Pending (next_number 0 s)) (flown 0 place s))))
 act_done site track line s (misses local kind) = used line local s (λ old. Comes (Ends (Fault kind line)))
 act_done site track line s (puts place value) = Issues (access.Write place value track) (GoesOn s)
 act_done site track line s (sends place value) = Issues (access.Write place value track) (GoesOn s)

@@ -1,7 +1,7 @@
 -- What is computed from values alone: by the machine for an instruction, and by the meaning of a source for the step
--- that the instruction stands for. Numbers follow the checked arithmetic of the language, and pointers that of a layout.
-use Rattle.std.specs.Prelude.{ℕ, zero, ◌+◌, ◌*◌, ◌==◌, ℤ, pos, negsuc, nat_lt, if◌then◌else◌, Option, Some, None, Result, Ok, Err, Bool, true, false, ◌&&◌, List, [], ◌∷◌, length, slice_get}
-use Rattle.std.specs.Option.{option_map}
+-- that the instruction stands for. Numbers follow the checked arithmetic of the language, and pointers that of a
+-- layout.
+use Rattle.std.specs.Prelude.{ℕ, zero, ◌==◌, ℤ, pos, nat_lt, if◌then◌else◌, Result, Ok, Err, Bool, true, false, ◌&&◌, List, [], ◌∷◌, length, slice_get}
 use Rattle.std.specs.Ordering.{int_eq}
 use Rattle.sc_base.specs.Arithmetic.{binary_of, unary_of}
 use Rattle.sc_base.specs.declared.operator.Binary.{Binary}
@@ -9,13 +9,11 @@ use Rattle.sc_base.specs.declared.operator.Unary.{Unary}
 use Rattle.sc_base.specs.declared.shape.Star.{Star}
 use Rattle.sc_base.specs.declared.shape.Star.TheVariants.{Local, Global, Spread}
 use Rattle.sc_base.specs.declared.value.FaultKind.{FaultKind}
-use Rattle.sc_base.specs.declared.value.FaultKind.TheVariants.{Index}
-use Rattle.sc_base.specs.declared.value.Place.{Place}
 use Rattle.sc_base.specs.declared.value.Value.{Value}
 use Rattle.sc_base.specs.declared.value.Value.TheVariants.{Int, Null, Ptr}
-use Rattle.sc_layout.specs.Layout.{LaidObject, Arrangement}
-use Rattle.sc_layout.specs.Place.{place_of}
+use Rattle.sc_layout.specs.Layout.{Arrangement}
 use Rattle.sc_layout.specs.Pointer.{global_step, spread_step, with_node, global_of, node_of}
+pub use Rattle.sc_isa.specs.Elements.{Outcome, gives, fails, wrong, ints, element}
 
 -- an operation that takes values and gives one
 pub data Pure : Type 0 where
@@ -41,12 +39,6 @@ arity to_global = 2
 arity (bin op) = 2
 arity same = 2
 arity _ = 1
-
--- a value, a fault, or that the values are of a wrong kind or number
-pub data Outcome : Type 0 where
-  gives : Value → Outcome
-  fails : FaultKind → Outcome
-  wrong : Outcome
 
 abbrev pub value_or_fault : Result Value FaultKind → Outcome
 value_or_fault (Ok value) = gives value
@@ -85,45 +77,6 @@ stepped nodes Local pointer by = global_step pointer by
 stepped nodes Global pointer by = global_step pointer by
 stepped nodes Spread pointer by = spread_step nodes pointer by
 
--- ---- the cell of an object at its indices
-
-pub data Flat : Type 0 where
-  within : ℕ → Flat
-  outside : Flat
-  amiss : Flat
-
--- The flat index by Horner's rule over the bounds in order, each index tested against its own bound; a missing last
--- index is 0.
-abbrev pub flat_index : List ℕ → List ℤ → ℕ → Flat
-flat_index [] [] flat = within flat
-flat_index (bound ∷ []) [] flat = within (flat * bound)
-flat_index (bound ∷ bounds) (pos i ∷ is) flat = if nat_lt i bound then flat_index bounds is (flat * bound + i) else outside
-flat_index (bound ∷ bounds) (negsuc i ∷ is) flat = outside
-flat_index _ _ flat = amiss
-
--- the whole numbers, where all values are such
-abbrev pub and_int : Value → Option (List ℤ) → Option (List ℤ)
-and_int (Int n) ns = option_map (λ ns. n ∷ ns) ns
-and_int _ ns = None
-
-abbrev pub ints : List Value → Option (List ℤ)
-ints [] = Some []
-ints (value ∷ values) = and_int value (ints values)
-
-abbrev pub pointer_to : Option Place → Outcome
-pointer_to (Some place) = gives (Ptr place.object place.node place.offset)
-pointer_to None = fails Index
-
--- of an ordinary object it is a local pointer, whose node is 0
-abbrev pub pointer_at_flat : Arrangement → ℕ → Flat → Outcome
-pointer_at_flat layout object (within flat) = pointer_to (place_of layout 0 object flat)
-pointer_at_flat layout object outside = fails Index
-pointer_at_flat layout object amiss = wrong
-
-abbrev pub element : Arrangement → ℕ → Option LaidObject → Option (List ℤ) → Outcome
-element layout object (Some laid) (Some indices) = pointer_at_flat layout object (flat_index laid.bounds indices 0)
-element layout object _ _ = wrong
-
 -- ---- what each operation gives
 
 abbrev pub on_none : Arrangement → (node : ℕ) → Pure → Outcome
@@ -142,15 +95,18 @@ on_one layout node truth value = gives (bit (is_true value))
 on_one layout node _ _ = wrong
 
 abbrev pub on_two : Arrangement → Pure → Value → Value → Outcome
-on_two layout (step star) pointer (Int by) = of_pointer layout pointer (value_or_fault (stepped layout.nodes star pointer by))
-on_two layout to_global (Int node) pointer = of_pointer layout pointer (value_or_fault (global_of layout.nodes node pointer))
+on_two layout (step star) pointer (Int by) =
+    of_pointer layout pointer (value_or_fault (stepped layout.nodes star pointer by))
+on_two layout to_global (Int node) pointer =
+    of_pointer layout pointer (value_or_fault (global_of layout.nodes node pointer))
 on_two layout (bin op) (Int a) (Int b) = int_or_fault (binary_of op a b)
 on_two layout same a b = gives (bit (same_value a b))
 on_two layout _ _ _ = wrong
 
 -- the values in the order in which they were made
 abbrev pub computed : Arrangement → (node : ℕ) → Pure → List Value → Outcome
-computed layout node (elem object count) values = element layout object (slice_get layout.objects object) (ints values)
+computed layout node (elem object count) values =
+    element layout object (slice_get layout.objects object) (ints values)
 computed layout node op [] = on_none layout node op
 computed layout node op (a ∷ []) = on_one layout node op a
 computed layout node op (a ∷ b ∷ []) = on_two layout op a b

@@ -10,7 +10,8 @@ use Rattle.sc_isa.specs.declared.code.Code.{Code}
 use Rattle.sc_isa.specs.Fitting.{fits_all}
 use Rattle.sc_isa.specs.State.{State, reads_on, landed}
 use Rattle.sc_isa.specs.Moves.{After, GoesOn, Ends, Sticks, Move, Comes, Issues, Waits, Meets, Says}
-use Rattle.sc_isa.specs.Table.{step_of, begin}
+use Rattle.sc_isa.specs.Table.{step_of}
+use Rattle.sc_isa.specs.Begin.{begin}
 
 -- what a node asks: an issue and an arrival have no answer
 pub data Ask : Type 0 where
@@ -63,7 +64,8 @@ comes_to go Sticks = Stops Stuck
 abbrev pub asked_by : Arrangement → (State → NodeDoing) → Move → NodeDoing
 asked_by layout go (Comes after) = comes_to go after
 asked_by layout go (Issues access after) = Makes (Issue access) (comes_to go after)
-asked_by layout go (Waits counter s) = Asks (Wait counter) (fits_wait layout counter s) (λ answer. go (landed_by counter s answer))
+asked_by layout go (Waits counter s) =
+    Asks (Wait counter) (fits_wait layout counter s) (λ answer. go (landed_by counter s answer))
 asked_by layout go (Meets stores s) = Makes (Arrive stores) (Asks Pass fits_pass (λ answer. passed_by answer (go s)))
 asked_by layout go (Says text s) = Tells text (go s)
 

@@ -1,5 +1,5 @@
--- Sound code: never stuck, as well-typed programs are in Wright and Felleisen (1994), asking only for what the layout has,
--- with numbers that fall along its runs, after Floyd, "Assigning meanings to programs" (1967).
+-- Sound code: never stuck, as well-typed programs are in Wright and Felleisen (1994), asking only for what the layout
+-- has, with numbers that fall along its runs, after Floyd, "Assigning meanings to programs" (1967).
 use Rattle.std.specs.Prelude.{◌≡◌, ℕ, ◌+◌, ◌<◌, slice_get, Some, Bool, true, false, List}
 use Rattle.std.specs.Option.{option_map_or}
 use Rattle.sc_base.specs.declared.value.Place.{Place}
@@ -14,7 +14,8 @@ use Rattle.sc_isa.specs.declared.op.Op.TheVariants as op
 use Rattle.sc_isa.specs.Fitting.{fits_all}
 use Rattle.sc_isa.specs.State.{State, reads_on, landed}
 use Rattle.sc_isa.specs.Moves.{After, GoesOn, Ends, Sticks, Move, Comes, Issues, Waits, Meets, Says}
-use Rattle.sc_isa.specs.Table.{step_of, begin}
+use Rattle.sc_isa.specs.Table.{step_of}
+use Rattle.sc_isa.specs.Begin.{begin}
 
 -- ---- the states that a node comes to
 
@@ -39,7 +40,8 @@ Leads layout (Says text s) next = next ≡ s
 -- the node comes to the state, for some answers
 pub data Reached (code : Code) (layout : Arrangement) (node budget : ℕ) : State → Type 0 where
   begun : (s : State) → s ≡ begin code budget → Reached code layout node budget s
-  then_ : (s next : State) → Reached code layout node budget s → Leads layout (step_of code layout node s) next → Reached code layout node budget next
+  then_ : (s next : State) → Reached code layout node budget s → Leads layout (step_of code layout node s) next
+      → Reached code layout node budget next
 
 -- ---- what sound code keeps
 
@@ -89,9 +91,12 @@ is_bounded_at code at = option_map_or (λ instr. is_bounded instr.op) (slice_get
 
 pub record IsSound (code : Code) (layout : Arrangement) : Type 0 where
   -- for every node, budget and answers
-  pub never_stuck : (node budget : ℕ) (s : State) → node < layout.nodes → Reached code layout node budget s → IsDone (step_of code layout node s)
-  pub placed : (node budget : ℕ) (s : State) → node < layout.nodes → Reached code layout node budget s → IsPlacedMove layout (step_of code layout node s)
+  pub never_stuck : (node budget : ℕ) (s : State) → node < layout.nodes → Reached code layout node budget s
+      → IsDone (step_of code layout node s)
+  pub placed : (node budget : ℕ) (s : State) → node < layout.nodes → Reached code layout node budget s
+      → IsPlacedMove layout (step_of code layout node s)
   -- numbers of the instructions, which fall at each step that is no turn, call or return
   pub numbers : ℕ → ℕ
   pub falls : (node budget : ℕ) (s next : State) → node < layout.nodes → Reached code layout node budget s
-      → is_bounded_at code s.frame.at ≡ false → Leads layout (step_of code layout node s) next → numbers next.frame.at < numbers s.frame.at
+      → is_bounded_at code s.frame.at ≡ false → Leads layout (step_of code layout node s) next
+      → numbers next.frame.at < numbers s.frame.at

@@ -1,5 +1,5 @@
--- The state of a node that runs code: a stack machine after Landin, "The mechanical evaluation of expressions" (1964),
--- whose operands may still be landing.
+-- The state of a node that runs code: a stack machine after Landin, "The mechanical evaluation of expressions"
+-- (1964), whose operands may still be landing.
 use Rattle.std.specs.Prelude.{ℕ, zero, suc, ◌+◌, ◌-◌, ◌==◌, pos, if◌then◌else◌, Option, Some, None, List, [], ◌∷◌, ◌++◌, length, map, replicate, slice_set, slice_index_or}
 use Rattle.sc_base.specs.declared.value.Place.{Place}
 use Rattle.sc_base.specs.declared.value.Value.{Value}
@@ -20,8 +20,8 @@ pub record Flight : Type 0 where
   pub counter : ℕ
   pub place : Place
 
--- the frame that runs and those that called, the newest first; what is left of the budget; and the reads and gets that
--- have not landed, in order of issue
+-- the frame that runs and those that called, the newest first; what is left of the budget; and the reads and gets
+-- that have not landed, in order of issue
 pub record State : Type 0 where
   pub frame : Frame
   pub callers : List Frame
@@ -51,7 +51,8 @@ abbrev pub at_instr : ℕ → State → State
 at_instr at s = record s { frame = record { at = at; stack = s.frame.stack; locals = s.frame.locals } }
 
 abbrev pub with_local : ℕ → Slot → State → State
-with_local local slot s = record s { frame = record { at = s.frame.at; stack = s.frame.stack; locals = slice_set s.frame.locals local slot } }
+with_local local slot s = record s
+    { frame = record { at = s.frame.at; stack = s.frame.stack; locals = slice_set s.frame.locals local slot } }
 
 abbrev pub with_left : ℕ → State → State
 with_left left s = record s { left = left }
@@ -87,11 +88,13 @@ value_at values number = slice_index_or values number (Int (pos 0))
 
 abbrev pub land : (counter : ℕ) → List Value → Operand → Operand
 land counter values (Here value) = Here value
-land counter values (Landing other number) = if other == counter then Here (value_at values number) else Landing other number
+land counter values (Landing other number) =
+    if other == counter then Here (value_at values number) else Landing other number
 
 abbrev pub land_slot : (counter : ℕ) → List Value → Slot → Slot
 land_slot counter values (Holds operand) = Holds (land counter values operand)
-land_slot counter values (Pending number) = if counter == 0 then Holds (Here (value_at values number)) else Pending number
+land_slot counter values (Pending number) =
+    if counter == 0 then Holds (Here (value_at values number)) else Pending number
 
 abbrev pub land_frame : (counter : ℕ) → List Value → Frame → Frame
 land_frame counter values frame = record {
@@ -100,8 +103,8 @@ land_frame counter values frame = record {
   locals = map (land_slot counter values) frame.locals;
 }
 
--- Each operand that is landing on the counter becomes its value: in every stack, with the copies that `dup` made, and in
--- every local that was filled; and each local with a pending get does at counter 0.
+-- Each operand that is landing on the counter becomes its value: in every stack, with the copies that `dup` made, and
+-- in every local that was filled; and each local with a pending get does at counter 0.
 abbrev pub landed : (counter : ℕ) → List Value → State → State
 landed counter values s = record {
   frame = land_frame counter values s.frame;

@@ -1,6 +1,6 @@
--- The instruction table: what each instruction of the code does to a node's state, as one function to what comes next.
-use Rattle.std.specs.Prelude.{ℕ, zero, suc, ◌+◌, ◌-◌, pos, if◌then◌else◌, Option, Some, None, Bool, true, false, List, [], ◌∷◌, length, slice_get, codes, drop}
-use Rattle.std.specs.Str.{bytes_eq}
+-- The instruction table: what each instruction of the code does to a node's state, as one function to what comes
+-- next.
+use Rattle.std.specs.Prelude.{ℕ, zero, suc, ◌+◌, pos, Option, Some, None, Bool, true, false, List, [], ◌∷◌, slice_get}
 use Rattle.sc_base.specs.declared.value.CopyMode.{CopyMode}
 use Rattle.sc_base.specs.declared.value.CopyMode.TheVariants.{Blocking, Split, OneWay}
 use Rattle.sc_base.specs.declared.value.End.TheVariants.{Ended}
@@ -18,14 +18,16 @@ use Rattle.sc_isa.specs.declared.operand.Operand.{Operand}
 use Rattle.sc_isa.specs.declared.operand.Operand.TheVariants.{Here}
 use Rattle.sc_isa.specs.Pure.{push, null, mine, procs, elem, step, glob, to_local, to_proc, to_global, bin, un, same, truth}
 use Rattle.sc_isa.specs.Deeds.{Gain, pure, load, set, read, write, call, Act, clear, print, fill, get, put, send, copy, wait, barrier, takes, uses_up, made, done}
-use Rattle.sc_isa.specs.State.{Frame, State, entered_with, with_stack, pushed, at_instr, with_left}
+use Rattle.sc_isa.specs.State.{Frame, State, with_stack, pushed, at_instr, with_left}
 use Rattle.sc_isa.specs.Moves.{After, GoesOn, Ends, Sticks, Move, Comes, Taken, taken, none_pending, counted, gain_done, act_done}
 
 -- ---- the steps that take values
 
-abbrev pub gained : Code → Arrangement → (node : ℕ) → Gain → (site : ℕ) → Track → (line : ℕ) → State → Option Taken → Move
+abbrev pub gained : Code → Arrangement → (node : ℕ) → Gain → (site : ℕ) → Track → (line : ℕ) → State → Option Taken
+    → Move
 gained code layout node g site track line s None = Comes Sticks
-gained code layout node g site track line s (Some t) = gain_done code site track line (with_stack t.rest s) (made layout node g t.values)
+gained code layout node g site track line s (Some t) =
+    gain_done code site track line (with_stack t.rest s) (made layout node g t.values)
 
 abbrev pub acted : Arrangement → Act → (site : ℕ) → Track → (line : ℕ) → State → Option Taken → Move
 acted layout a site track line s None = Comes Sticks
@@ -137,26 +139,3 @@ module _ (code : Code) (layout : Arrangement) (node : ℕ) where
 
   abbrev pub step_of : State → Move
   step_of s = does_instr (slice_get code.instrs s.frame.at) s
-
--- ---- the beginning
-
-abbrev pub names : Code → List (List ℕ)
-names code = drop (length code.texts - length code.functions) code.texts
-
--- the first function of that name
-abbrev pub row_named : List ℕ → List FnRow → List (List ℕ) → Option FnRow
-row_named name (row ∷ rows) (other ∷ others) = if bytes_eq name other then Some row else row_named name rows others
-row_named name _ _ = None
-
-abbrev pub entry : Code → Option FnRow
-entry code = row_named (codes "splitc_main") code.functions (names code)
-
-abbrev pub begins_at : (budget outside : ℕ) → Option FnRow → State
-begins_at budget outside (Some row) =
-    record { frame = record { at = row.start; stack = []; locals = entered_with [] row.locals }; callers = []; left = budget; flying = [] }
-begins_at budget outside None =
-    record { frame = record { at = outside; stack = []; locals = [] }; callers = []; left = budget; flying = [] }
-
--- a node begins in `splitc_main`; without that function it stands outside the code
-abbrev pub begin : Code → (budget : ℕ) → State
-begin code budget = begins_at budget (length code.instrs) (entry code)

@@ -1,8 +1,11 @@
 //! The code of the nodes.
 
-ghost use Rattle.std.specs.Prelude.{◌≡◌, ℕ, ◌^◌, ◌<◌, [], length, slice_index_or};
+ghost use Rattle.std.specs.Prelude.{◌≡◌, ◌^◌, ◌<◌, length, IsTrue, IfSome, IfNone};
+ghost use Rattle.std.specs.List.{list_all};
+ghost use Rattle.sc_isa.specs.Short.{is_short, IsShort};
 
 use crate::op::Instr;
+use sc_base::Bytes;
 use sc_tree::Texts;
 use std::marker::Model;
 
@@ -85,5 +88,47 @@ pub struct Code {
     pub ghost few_functions: { length functions < 2 ^ 32 },
     pub ghost few_instrs: { length instrs < 2 ^ 32 },
     pub ghost few_texts: { length texts < 2 ^ 32 },
-    pub ghost short_texts: { (number : ℕ) → length (slice_index_or texts number []) < 2 ^ 32 },
+    pub ghost short_texts: { IsTrue (list_all is_short texts) },
+}
+
+impl Code {
+    /// The code of these parts; None where they have too many functions, instructions or texts, or a text has too many
+    /// bytes, to count them in 32 bits.
+    pub fn new(functions: FnRows, instrs: Instrs, texts: Texts, sites: u32) -> Option<Code>
+        ensures parts { IfSome result (λ code. (code.functions ≡ functions) × (code.instrs ≡ instrs)
+            × (code.texts ≡ texts) × (code.sites ≡ sites)) }
+        ensures none { IfNone result (IsShort (length functions) (length instrs) texts → ⊥) }
+    {
+        if functions.as_slice().len() > u32::MAX as usize {
+            return None;
+        }
+        if instrs.as_slice().len() > u32::MAX as usize {
+            return None;
+        }
+        if texts.as_slice().len() > u32::MAX as usize {
+            return None;
+        }
+        if !are_short(texts.as_slice()) {
+            return None;
+        }
+        Some(Code {
+            functions,
+            instrs,
+            texts,
+            sites,
+        })
+    }
+}
+
+/// Whether the bytes of each text can be counted in 32 bits.
+fn are_short(texts: &[Bytes]) -> bool
+    ensures { result ≡ list_all is_short texts.now }
+{
+    texts.iter().all(|text| is_short(text.as_slice()))
+}
+
+fn is_short(text: &[u8]) -> bool
+    ensures { result ≡ is_short text.now }
+{
+    text.len() <= u32::MAX as usize
 }

@@ -6,9 +6,11 @@ pub mod access;
 pub mod code;
 pub mod journal;
 pub mod landed;
+pub mod laws;
 pub mod op;
 pub mod operand;
 pub mod results;
+mod text;
 
 pub use access::{Access, Track};
 pub use code::{Code, FnRow, FnRows, Instrs};
@@ -17,3 +19,7 @@ pub use landed::Landed;
 pub use op::{Instr, Op};
 pub use operand::{Operand, Slot};
 pub use results::{NodeResult, NodeResults};
+pub use text::listing;
+
+#[cfg(test)]
+mod tests;

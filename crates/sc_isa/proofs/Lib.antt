@@ -1,0 +1,6 @@
+pub mod Lines
+pub mod Weights
+pub mod Moving
+pub mod Settling
+pub mod Exact
+pub mod Examples
