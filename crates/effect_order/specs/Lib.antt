@@ -11,3 +11,4 @@ pub mod Run
 pub mod Walk
 pub mod Sourced
 pub mod Smallest
+pub mod Transfer

@@ -1,15 +1,16 @@
 -- The table of steps: for each what its run of instructions is, and what of it the flow of a source shows. What the steps do
 -- with values is what their instructions do.
-use Rattle.std.specs.Prelude.{ℕ, Bool, true, false, Option, Some, None, List, [], ◌∷◌}
+use Rattle.std.specs.Prelude.{ℕ, Bool, true, false, List, [], ◌∷◌}
 use Rattle.sc_base.specs.declared.operator.Unary.TheVariants.{Minus, Not}
 use Rattle.sc_base.specs.declared.shape.Star.{Star}
-use Rattle.sc_base.specs.declared.value.CopyMode.{CopyMode}
 use Rattle.sc_base.specs.declared.value.Value.{Value}
 use Rattle.sc_layout.specs.Layout.{Arrangement}
 use Rattle.sc_isa.specs.declared.op.Op.{Op}
 use Rattle.sc_isa.specs.declared.op.Op.TheVariants as op
-use Rattle.sc_isa.specs.Pure.{Pure, elem, step, glob, to_local, to_proc, to_global, bin, un, same, truth, Outcome, gives, fails, wrong, computed}
-use Rattle.sc_isa.specs.Deeds.{Gain, pure, load, set, read, write, call, Made, makes, faults, stuck, made, made_by}
+use Rattle.sc_isa.specs.Elements.{Outcome, gives, fails, wrong}
+use Rattle.sc_isa.specs.Pure.{Pure, elem, step, glob, to_local, to_proc, to_global, bin, un, same, truth, computed}
+use Rattle.sc_isa.specs.Steps.{Gain, pure, load, set, read, write, call}
+use Rattle.sc_isa.specs.Deeds.{Made, makes, faults, stuck, made, made_by}
 use Rattle.sc_core.specs.declared.operation.Operation.{Operation}
 use Rattle.sc_core.specs.declared.operation.Operation.TheVariants.{Use, Element, Address, Own, Convert, Forward, Back, Binary, Unary, Same, Differ, IsNull, ToGlobal, ToProc, ToLocal, Set, Call, Read, Write}
 use Rattle.sc_core.specs.declared.operation.Action.{Action}

@@ -1,132 +1,122 @@
--- Which lists of events are histories of a source: each node's own events are the requests of its run, in order, and
+-- Which lists of events are legal histories of a source: each node's own events are the requests of its run, in order,
 -- each read shows the value last written, as in Lamport's sequential consistency ("How to make a multiprocessor computer
--- that correctly executes multiprocess programs", 1979). In all of these a past is a list of events, the newest first.
-use Rattle.std.specs.Prelude.{◌≡◌, ℕ, ◌+◌, ◌<◌, List, [], ◌∷◌, ◌++◌, reverse, Option, Some, None, true, false, ◌==◌, if◌then◌else◌, IsSome}
+-- that correctly executes multiprocess programs", 1979), and the parts of issued transfers occur after their issue and
+-- before what waits for them. A past is a list of events, the newest first.
+use Rattle.std.specs.Prelude.{◌≡◌, ℕ, ◌+◌, ◌<◌, ◌≤◌, List, [], ◌∷◌, length, slice_get, Some, None, Bool, true, false}
 use Rattle.sc_base.specs.declared.value.Value.{Value}
 use Rattle.sc_base.specs.declared.value.Place.{Place}
 use Rattle.sc_base.specs.declared.value.End.{End}
-use Rattle.effect_order.specs.Effect.{held, Effect as CellEffect}
-use Rattle.sc_meaning.specs.declared.request.Request.TheVariants.{Read, Write}
+use Rattle.sc_base.specs.declared.value.End.TheVariants.{Waiting}
+use Rattle.sc_meaning.specs.declared.request.Request.{Request}
+use Rattle.sc_meaning.specs.declared.request.Request.TheVariants.{Read, Write, Sync as SyncRequest, Barrier, AllStoreSync}
 use Rattle.sc_meaning.specs.declared.event.SourceEvent.{SourceEvent}
-use Rattle.sc_meaning.specs.declared.event.SourceEvent.TheVariants.{Do, Effect, End as Ends}
-use Rattle.sc_meaning.specs.declared.request.Answer.{Answer}
-use Rattle.sc_meaning.specs.declared.request.Answer.TheVariants.{Shown, Noted}
-use Rattle.sc_meaning.specs.Doing.{Doing, answered, next_request, next_end, next_text}
+use Rattle.sc_meaning.specs.declared.event.SourceEvent.TheVariants.{Do, Issue, Effect, Sync, Arrive, Release, End as Over}
+use Rattle.resumption.specs.Resumption.{Ends}
+use Rattle.effect_order.specs.Transfer.{part_place, part_value, written, AllOccurred}
+use Rattle.sc_meaning.specs.Asking.{Finishes}
+use Rattle.sc_meaning.specs.Parts.{transfer_of, is_blocking_copy, is_split, is_one_way, is_issued}
+use Rattle.sc_meaning.specs.Past.{Processes, effects, shown, releases, arrivals, stores_at, made, ended, run_so_far, request_at}
 
--- how many nodes there are, what each cell holds before any write, and what each node does from its beginning
-pub record Program : Type 0 where
-  pub nodes : ℕ
-  pub start : Place → Value
-  pub starts : ℕ → Doing
+-- every part of the node's requests of this kind so far has occurred
+abbrev pub AllDone : Processes → (Request → Bool) → ℕ → List SourceEvent → Type 0
+AllDone processes kind node past =
+    (number : ℕ) (request : Request) → request_at processes node number past ≡ Some request → kind request ≡ true
+    → AllOccurred (transfer_of request) node number (effects past)
 
--- the effects on cells, the newest first
-abbrev pub source_effects : List SourceEvent → List CellEffect
-source_effects [] = []
-source_effects (Do node request wrote place value ∷ past) =
-    record { node = node; number = request; cell = 0; wrote = wrote; place = place; value = value } ∷ source_effects past
-source_effects (Effect node request cell wrote place value ∷ past) =
-    record { node = node; number = request; cell = cell; wrote = wrote; place = place; value = value } ∷ source_effects past
-source_effects (_ ∷ past) = source_effects past
+-- the node can do its next own event
+pub record GoesOn (processes : Processes) (past : List SourceEvent) (node : ℕ) : Type 0 where
+  pub node_within : node < processes.nodes
+  -- its end is its last event
+  pub running : ended node past ≡ None
+  -- its blocking copies are over
+  pub copies_done : AllDone processes is_blocking_copy node past
+  -- each barrier at which it arrived is released
+  pub released : arrivals node past ≤ releases past
 
--- what the place holds: the value last written to it, or the start value
-abbrev pub shown : (Place → Value) → Place → List SourceEvent → Value
-shown start place past = held start place (source_effects past)
-
--- what the event answers to the node
-abbrev pub answer_to : ℕ → SourceEvent → Option Answer
-answer_to node (Do other request true place value) = if other == node then Some Noted else None
-answer_to node (Do other request false place value) = if other == node then Some (Shown value) else None
-answer_to node _ = None
-
--- the answers that the events show to the node, in order
-abbrev pub and_answer : List Answer → Option Answer → List Answer
-and_answer answers None = answers
-and_answer answers (Some answer) = answers ++ answer ∷ []
-
-abbrev pub answers : ℕ → List SourceEvent → List Answer
-answers node [] = []
-answers node (event ∷ past) = and_answer (answers node past) (answer_to node event)
-
-abbrev pub after_answer : Doing → Option Answer → Doing
-after_answer doing None = doing
-after_answer doing (Some answer) = answered doing answer
-
--- what the node does from now on
-abbrev pub doing : Program → ℕ → List SourceEvent → Doing
-doing program node [] = program.starts node
-doing program node (event ∷ past) = after_answer (doing program node past) (answer_to node event)
-
--- what the node has printed
-abbrev pub and_then : List ℕ → Option Answer → Doing → List ℕ
-and_then text None doing = text
-and_then text (Some answer) doing = text ++ next_text doing
-
-abbrev pub printed : Program → ℕ → List SourceEvent → List ℕ
-printed program node [] = next_text (program.starts node)
-printed program node (event ∷ past) =
-    and_then (printed program node past) (answer_to node event) (doing program node (event ∷ past))
-
--- how the node ended
-abbrev pub ended : ℕ → List SourceEvent → Option End
-ended node [] = None
-ended node (Ends other end ∷ past) = if other == node then Some end else ended node past
-ended node (_ ∷ past) = ended node past
-
--- how many requests the node has made
-abbrev pub requests : ℕ → List SourceEvent → ℕ
-requests node [] = 0
-requests node (Do other request wrote place value ∷ past) = if other == node then requests node past + 1 else requests node past
-requests node (_ ∷ past) = requests node past
+-- the request is the node's next, and has this number
+pub record IsNext (processes : Processes) (past : List SourceEvent) (node number : ℕ) (request : Request) : Type 0 where
+  pub goes_on : GoesOn processes past node
+  pub numbered : number ≡ made node past
+  pub next : slice_get (run_so_far processes node past).events number ≡ Some request
 
 -- a blocking read is the node's next request, and shows what the place holds
-pub record ReadAllowed (program : Program) (past : List SourceEvent) (node request : ℕ) (place : Place) (value : Value) : Type 0 where
-  pub node_within : node < program.nodes
-  pub numbered : request ≡ requests node past
-  pub next : (line : ℕ) × (next_request (doing program node past) ≡ Some (Read place line))
-  pub shows : value ≡ shown program.start place past
+pub record ReadAllowed (processes : Processes) (past : List SourceEvent) (node number : ℕ) (place : Place) (value : Value) : Type 0 where
+  pub line : ℕ
+  pub is_next : IsNext processes past node number (Read place line)
+  pub shows : value ≡ shown processes.start place past
 
 -- a blocking write is the node's next request, with that request's value
-pub record WriteAllowed (program : Program) (past : List SourceEvent) (node request : ℕ) (place : Place) (value : Value) : Type 0 where
-  pub node_within : node < program.nodes
-  pub numbered : request ≡ requests node past
-  pub next : (line : ℕ) × (next_request (doing program node past) ≡ Some (Write place value line))
+pub record WriteAllowed (processes : Processes) (past : List SourceEvent) (node number : ℕ) (place : Place) (value : Value) : Type 0 where
+  pub line : ℕ
+  pub is_next : IsNext processes past node number (Write place value line)
 
--- a node ends once, where its run ends
-pub record EndAllowed (program : Program) (past : List SourceEvent) (node : ℕ) (end : End) : Type 0 where
-  pub node_within : node < program.nodes
-  pub next : next_end (doing program node past) ≡ Some end
-  pub once : ended node past ≡ None
+-- any other transfer is issued where it is the node's next request
+pub record IssueAllowed (processes : Processes) (past : List SourceEvent) (node number : ℕ) : Type 0 where
+  pub request : Request
+  pub is_next : IsNext processes past node number request
+  pub issued : is_issued request ≡ true
+
+-- A part of an issued transfer occurs once, at its place. A reading part shows what the place holds, and a writing part
+-- writes the request's value or what its cell was read as, after that reading.
+pub record EffectAllowed (processes : Processes) (past : List SourceEvent) (node number cell : ℕ) (wrote : Bool) (place : Place) (value : Value) : Type 0 where
+  pub node_within : node < processes.nodes
+  pub request : Request
+  pub made_before : request_at processes node number past ≡ Some request
+  pub issued : is_issued request ≡ true
+  pub its_place : part_place (transfer_of request) cell wrote ≡ Some place
+  pub once : part_value node number cell wrote (effects past) ≡ None
+  pub reads : wrote ≡ false → value ≡ shown processes.start place past
+  pub writes : wrote ≡ true → written (transfer_of request) node number cell (effects past) ≡ Some value
+
+-- a sync follows all parts of the node's gets, puts and split copies
+pub record SyncAllowed (processes : Processes) (past : List SourceEvent) (node number : ℕ) : Type 0 where
+  pub line : ℕ
+  pub is_next : IsNext processes past node number (SyncRequest line)
+  pub all_done : AllDone processes is_split node past
+
+abbrev pub barrier_of : (stores : Bool) → (line : ℕ) → Request
+barrier_of true line = AllStoreSync line
+barrier_of false line = Barrier line
+
+pub record ArriveAllowed (processes : Processes) (past : List SourceEvent) (node number : ℕ) (stores : Bool) : Type 0 where
+  pub line : ℕ
+  pub is_next : IsNext processes past node number (barrier_of stores line)
+
+-- the m-th release follows every node's m-th arrival, none of which gave up, and where one of them waits for stores
+-- the parts of all stores and one-way copies
+pub record ReleaseAllowed (processes : Processes) (past : List SourceEvent) (number : ℕ) : Type 0 where
+  pub numbered : number ≡ releases past + 1
+  pub all_arrived : (node : ℕ) → node < processes.nodes → number ≤ arrivals node past
+  pub none_ended : (node : ℕ) → node < processes.nodes → ended node past ≡ None
+  pub stores_done : stores_at number past ≡ true → (node : ℕ) → node < processes.nodes → AllDone processes is_one_way node past
+
+-- a node ends after all its requests, as its run does
+pub record EndAllowed (processes : Processes) (past : List SourceEvent) (node : ℕ) (end : End) : Type 0 where
+  pub goes_on : GoesOn processes past node
+  pub all_made : made node past ≡ length (run_so_far processes node past).events
+  pub over : (run_so_far processes node past).end ≡ Ends (Finishes end)
+
+-- a node ends as waiting at a barrier that was not released, where its run does so at a broken barrier
+pub record WaitingAllowed (processes : Processes) (past : List SourceEvent) (node : ℕ) : Type 0 where
+  pub node_within : node < processes.nodes
+  pub running : ended node past ≡ None
+  pub at_barrier : arrivals node past ≡ releases past + 1
+  pub all_made : made node past ≡ length (run_so_far processes node (Over node Waiting ∷ past)).events
+  pub over : (run_so_far processes node (Over node Waiting ∷ past)).end ≡ Ends (Finishes Waiting)
 
 -- the event is allowed after these
-abbrev pub Allowed : Program → List SourceEvent → SourceEvent → Type 0
-Allowed program past (Do node request false place value) = ReadAllowed program past node request place value
-Allowed program past (Do node request true place value) = WriteAllowed program past node request place value
-Allowed program past (Ends node end) = EndAllowed program past node end
-Allowed program past _ = ⊥
+abbrev pub Allowed : Processes → List SourceEvent → SourceEvent → Type 0
+Allowed processes past (Do node request false place value) = ReadAllowed processes past node request place value
+Allowed processes past (Do node request true place value) = WriteAllowed processes past node request place value
+Allowed processes past (Issue node request) = IssueAllowed processes past node request
+Allowed processes past (Effect node request cell wrote place value) = EffectAllowed processes past node request cell wrote place value
+Allowed processes past (Sync node request) = SyncAllowed processes past node request
+Allowed processes past (Arrive node request stores) = ArriveAllowed processes past node request stores
+Allowed processes past (Release number) = ReleaseAllowed processes past number
+Allowed processes past (Over node Waiting) = WaitingAllowed processes past node
+Allowed processes past (Over node end) = EndAllowed processes past node end
 
 -- each event is allowed after those before it
-abbrev pub Legal : Program → List SourceEvent → Type 0
-Legal program [] = Unit {0}
-Legal program (event ∷ past) = Allowed program past event × Legal program past
-
--- each node has ended
-pub record Complete (program : Program) (past : List SourceEvent) : Type 0 where
-  pub all_ended : (node : ℕ) → node < program.nodes → IsSome (ended node past)
-
--- a whole history, in the order of its events
-pub record IsHistory (program : Program) (history : List SourceEvent) : Type 0 where
-  pub legal : Legal program (reverse history)
-  pub complete : Complete program (reverse history)
-
--- what a run shows in the end: how each node ended, what it printed, and what each cell holds
-pub record Outcome : Type 0 where
-  pub ends : ℕ → Option End
-  pub texts : ℕ → List ℕ
-  pub memory : Place → Value
-
-abbrev pub outcome : Program → List SourceEvent → Outcome
-outcome program history = record {
-  ends = λ node. ended node (reverse history);
-  texts = λ node. printed program node (reverse history);
-  memory = λ place. shown program.start place (reverse history);
-}
+abbrev pub Legal : Processes → List SourceEvent → Type 0
+Legal processes [] = Unit {0}
+Legal processes (event ∷ past) = Allowed processes past event × Legal processes past

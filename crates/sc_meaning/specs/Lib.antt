@@ -1,4 +1,11 @@
-pub mod Doing
-pub mod Printing
+pub mod Asking
+pub mod Memory
+pub mod Points
+pub mod Steps
+pub mod Meaning
+pub mod Parts
+pub mod Past
 pub mod History
-pub mod Laws
+pub mod Whole
+pub mod Below
+pub mod Test

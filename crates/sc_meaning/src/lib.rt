@@ -1,8 +1,8 @@
-//! What a node does, and which lists of events are histories of a program.
+//! What a source means: what each node does, and which lists of events are histories of it.
 #![tactic(auto)]
 
 pub mod event;
-pub mod laws;
-pub mod printing;
 pub mod request;
-pub mod stand;
+
+pub use event::SourceEvent;
+pub use request::Request;
