@@ -1,8 +1,8 @@
 -- What the places of accesses are, as far as their text tells, and which objects can be reached through pointers.
-use Rattle.std.specs.Prelude.{ℕ, Bool, List, [], ◌∷◌, ◌++◌}
+use Rattle.std.specs.Prelude.{ℕ, Bool, List, [], ◌∷◌, ◌++◌, flat_map}
 use Rattle.sc_core.specs.declared.operation.Operation.{Operation}
 use Rattle.sc_core.specs.declared.operation.Operation.TheVariants.{Element, Address, Own}
-use Rattle.sc_core.specs.Core.{Core, constant, step, choice, update, Arguments, none, argument, Does, nothing, break, continue, then_, act, choose, loop, return, Program}
+use Rattle.sc_core.specs.Core.{Core, constant, step, choice, update, Arguments, none, argument, Does, then_, act, choose, loop, return, Program}
 
 -- the executing node's own cell of an object; a cell of a spread object, by its indices and whether they are plain;
 -- a use of a local pointer; or a use of a pointer that names a node
@@ -41,3 +41,7 @@ exposes_in (choose of_pointer test on off) = exposes test ++ exposes_in on ++ ex
 exposes_in (loop mine before body after) = exposes_in before ++ exposes_in body ++ exposes_in after
 exposes_in (return e line) = exposes e
 exposes_in _ = []
+
+-- the objects that are exposed in the source
+abbrev pub exposes_of : Program → List ℕ
+exposes_of program = flat_map (λ f. exposes_in f.body) program.functions

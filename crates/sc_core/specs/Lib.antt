@@ -9,3 +9,4 @@ pub mod View
 pub mod ViewStatements
 pub mod Table
 pub mod Forms
+pub mod Shown

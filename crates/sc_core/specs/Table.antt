@@ -1,6 +1,6 @@
--- The table of steps: for each what its run of instructions is, and what of it the flow of a source shows. What the steps do
--- with values is what their instructions do.
-use Rattle.std.specs.Prelude.{ℕ, Bool, true, false, List, [], ◌∷◌}
+-- The table of steps: for each its run of instructions, and what it does with values, which is what its instructions do.
+use Rattle.std.specs.Prelude.{ℕ, Bool, true, false, List, [], ◌∷◌, slice_get}
+use Rattle.std.specs.Option.{option_map_or}
 use Rattle.sc_base.specs.declared.operator.Unary.TheVariants.{Minus, Not}
 use Rattle.sc_base.specs.declared.shape.Star.{Star}
 use Rattle.sc_base.specs.declared.value.Value.{Value}
@@ -8,9 +8,13 @@ use Rattle.sc_layout.specs.Layout.{Arrangement}
 use Rattle.sc_isa.specs.declared.op.Op.{Op}
 use Rattle.sc_isa.specs.declared.op.Op.TheVariants as op
 use Rattle.sc_isa.specs.Elements.{Outcome, gives, fails, wrong}
-use Rattle.sc_isa.specs.Pure.{Pure, elem, step, glob, to_local, to_proc, to_global, bin, un, same, truth, computed}
+use Rattle.sc_isa.specs.Pure.{Pure, push, null, mine, procs, elem, step, glob, to_local, to_proc, to_global, bin, un, same, truth, computed}
 use Rattle.sc_isa.specs.Steps.{Gain, pure, load, set, read, write, call}
-use Rattle.sc_isa.specs.Deeds.{Made, makes, faults, stuck, made, made_by}
+use Rattle.sc_isa.specs.Steps as steps
+use Rattle.sc_isa.specs.Deeds.{Made, faults, stuck, made, made_by, Done, sticks, clears, done}
+use Rattle.sc_tree.specs.Names.{Text}
+use Rattle.sc_core.specs.declared.operation.Constant.{Constant}
+use Rattle.sc_core.specs.declared.operation.Constant.TheVariants as constants
 use Rattle.sc_core.specs.declared.operation.Operation.{Operation}
 use Rattle.sc_core.specs.declared.operation.Operation.TheVariants.{Use, Element, Address, Own, Convert, Forward, Back, Binary, Unary, Same, Differ, IsNull, ToGlobal, ToProc, ToLocal, Set, Call, Read, Write}
 use Rattle.sc_core.specs.declared.operation.Action.{Action}
@@ -62,7 +66,38 @@ run_made layout node (back star) values = stuck
 abbrev pub made_of : Arrangement → (node : ℕ) → Operation → List Value → Made
 made_of layout node operation values = run_made layout node (run_of operation) values
 
--- ---- its instructions, at the access site of this number, whose write is sent one-way or not
+-- ---- what a step without a value does
+
+-- with the text of this number, if there is one
+abbrev pub with_text : List Text → ℕ → (List ℕ → Done) → Done
+with_text texts text go = option_map_or go (slice_get texts text) sticks
+
+-- what the action does with the values of its arguments
+abbrev pub done_of : Arrangement → List Text → Action → List Value → Done
+done_of layout texts Drop vs = done layout steps.drop vs
+done_of layout texts (Begin x) (v ∷ []) = clears x v
+done_of layout texts (Begin x) vs = sticks
+done_of layout texts (Clear x pointer) vs = done layout (steps.clear x pointer) vs
+done_of layout texts (Fill x) vs = done layout (steps.fill x) vs
+done_of layout texts (Get x) vs = done layout (steps.get x) vs
+done_of layout texts Put vs = done layout steps.put vs
+done_of layout texts Send vs = done layout steps.send vs
+done_of layout texts (Copy mode) vs = done layout steps.copy vs
+done_of layout texts (Print text n) vs = with_text texts text (λ format. done layout (steps.print format n) vs)
+done_of layout texts Sync vs = done layout (steps.wait 0) vs
+done_of layout texts Barrier vs = done layout (steps.barrier false) vs
+done_of layout texts AllStoreSync vs = done layout (steps.barrier true) vs
+
+-- ---- constants
+
+-- the instruction that gives the constant
+abbrev pub pure_of : Constant → Pure
+pure_of (constants.Number n) = push n
+pure_of constants.Null = null
+pure_of constants.Mine = mine
+pure_of constants.Procs = procs
+
+-- ---- the instructions of a step, at the access site of this number, whose write is sent one-way or not
 
 abbrev pub write_op : (one_way : Bool) → (site : ℕ) → Op
 write_op true site = op.Store site

@@ -7,7 +7,7 @@ use Rattle.sc_base.specs.declared.shape.Shape.{Shape}
 use Rattle.sc_core.specs.declared.operation.Operation.{Operation}
 use Rattle.sc_core.specs.declared.operation.Action.TheVariants.{Begin, Clear, Fill}
 use Rattle.sc_core.specs.Core.{Core, constant, step, choice, update, Arguments, none, argument, Does, nothing, break, continue, then_, act, choose, loop, return, Function, Program}
-use Rattle.sc_core.specs.Kinds.{Kind, number, to, kind_of, kind_of_type, Scope, HasBegun, IsConstant, IsPlaceOf, Computes, Takes, Uses}
+use Rattle.sc_core.specs.Kinds.{Kind, number, to, named, kind_of, kind_of_type, Scope, HasBegun, IsConstant, IsPlaceOf, Computes, Takes, Uses}
 use Rattle.sc_core.specs.Statements.{mine_first, mine_test, mine_next}
 
 -- an operation that takes back, if there is one, leaves the kind as it is
@@ -15,15 +15,20 @@ abbrev pub TakesBack : Option Operation → Kind → Type 0
 TakesBack None kind = Unit {0}
 TakesBack (Some operation) kind = Computes operation (kind ∷ number ∷ []) kind
 
+-- a value, and no cell that is named
+abbrev pub IsValue : Kind → Type 0
+IsValue (named placed cell) = ⊥
+IsValue _ = Unit {0}
+
 abbrev mutual
   -- the expression has values of this kind
   pub Has : Scope → Core → Kind → Type 0
   Has scope (constant c) kind = IsConstant c kind
   Has scope (step operation arguments line) kind =
       (kinds : List Kind) × Have scope arguments kinds × Takes scope operation kinds kind
-  Has scope (choice false test on off) kind = Has scope test number × Has scope on kind × Has scope off kind
+  Has scope (choice false test on off) kind = IsValue kind × Has scope test number × Has scope on kind × Has scope off kind
   Has scope (choice true test on off) kind =
-      (cell : List Star) × Has scope test (to cell) × Has scope on kind × Has scope off kind
+      IsValue kind × (cell : List Star) × Has scope test (to cell) × Has scope on kind × Has scope off kind
   Has scope (update pointer operation right back line) kind =
       (cell : List Star) × (place : Kind) × (other : Kind) × (kind ≡ kind_of cell) × IsPlaceOf cell place
       × Has scope pointer place × Has scope right other × Computes operation (kind ∷ other ∷ []) kind × TakesBack back kind
@@ -44,7 +49,7 @@ begins _ = []
 abbrev pub after : Scope → Does → Scope
 after scope s = record scope { begun = begins s ++ scope.begun }
 
--- `for_my_1d`, whose local is a whole number, stands behind its first assignment, and leaves its local to the loop
+-- `for_my_1d`, whose local is a whole number, stands behind its first assignment
 pub record IsMineLoop (scope : Scope) (x : ℕ) (first before next : Does) : Type 0 where
   pub bound : Core
   pub line : ℕ

@@ -9,3 +9,5 @@ pub mod History
 pub mod Whole
 pub mod Below
 pub mod Test
+pub mod CompleteTest
+pub mod Source

@@ -8,17 +8,18 @@ use Rattle.sc_base.specs.declared.value.FaultKind.TheVariants.{Depth}
 use Rattle.sc_base.specs.declared.value.Value.{Value}
 use Rattle.sc_base.specs.declared.value.Value.TheVariants.{Int, Null}
 use Rattle.sc_layout.specs.Layout.{Arrangement}
+use Rattle.sc_isa.specs.Elements.{Outcome, gives}
+use Rattle.sc_isa.specs.Pure.{computed}
 use Rattle.sc_core.specs.declared.operation.Constant.{Constant}
-use Rattle.sc_core.specs.declared.operation.Constant.TheVariants.{Number, Null as NullPointer, Mine, Procs}
 use Rattle.sc_core.specs.declared.operation.Operation.{Operation}
 use Rattle.sc_core.specs.declared.operation.Operation.TheVariants.{Read, Write}
 use Rattle.sc_core.specs.Core.{Core, constant, step, choice, update, Arguments, none, argument, Does, nothing, break, continue, then_, act, choose, loop, return, Function, Program}
-use Rattle.sc_core.specs.Table.{made_of}
+use Rattle.sc_core.specs.Table.{made_of, done_of, pure_of}
 use Rattle.sc_core.specs.Statements.{zero_of}
 use Rattle.sc_meaning.specs.Asking.{PointedDoing, SourceDoing, Came, Finishes, Breaks, without_points}
-use Rattle.sc_meaning.specs.Memory.{Memory, top, entered, pushed, popped}
+use Rattle.sc_meaning.specs.Memory.{top, entered, pushed, popped}
 use Rattle.sc_meaning.specs.Points.{size, sizes, size_of, first_point}
-use Rattle.sc_meaning.specs.Steps.{Rest, Calls, none_awaits, counted, decided, perform, done_of, mode_of, enact}
+use Rattle.sc_meaning.specs.Steps.{Rest, Calls, none_awaits, counted, decided, perform, mode_of, enact}
 use Rattle.sc_meaning.specs.declared.request.Request.TheVariants.{Sync}
 
 -- what a node knows from its beginning: where the cells lie, its own number, and the source
@@ -31,11 +32,13 @@ pub record Setting : Type 0 where
 abbrev pub pass : (point : ℕ) → PointedDoing → PointedDoing
 pass point rest = Makes (Came point) rest
 
+-- the value of a constant, which is what its instruction gives
+abbrev pub given : Outcome → Value
+given (gives v) = v
+given _ = Null
+
 abbrev pub constant_of : Setting → Constant → Value
-constant_of here (Number n) = Int n
-constant_of here NullPointer = Null
-constant_of here Mine = Int (pos here.node)
-constant_of here Procs = Int (pos here.layout.nodes)
+constant_of here c = given (computed here.layout here.node (pure_of c) [])
 
 -- what a statement goes on with where it returns, or leaves or repeats the loop around it
 pub record Jumps : Type 0 where

@@ -1,7 +1,6 @@
 -- What a step does to a node: what it requests, and what comes after it. What comes after is a function of what the node
 -- remembers and of how many turns and calls its budget leaves, as in Reynolds, "The discoveries of continuations" (1993).
-use Rattle.std.specs.Prelude.{ℕ, zero, suc, pos, List, [], ◌∷◌, Bool, true, false, Option, Some, None, slice_get}
-use Rattle.std.specs.Option.{option_map_or}
+use Rattle.std.specs.Prelude.{ℕ, zero, suc, pos, List, [], ◌∷◌, Bool, true, false}
 use Rattle.resumption.specs.Resumption.{Asks, Makes, Says, Stops}
 use Rattle.sc_base.specs.declared.value.CopyMode.{CopyMode}
 use Rattle.sc_base.specs.declared.value.CopyMode.TheVariants.{Blocking}
@@ -10,16 +9,14 @@ use Rattle.sc_base.specs.declared.value.FaultKind.TheVariants.{PendingUse}
 use Rattle.sc_base.specs.declared.value.Value.{Value}
 use Rattle.sc_base.specs.declared.value.Value.TheVariants.{Int}
 use Rattle.sc_layout.specs.Layout.{Arrangement}
-use Rattle.sc_tree.specs.Names.{Text}
 use Rattle.sc_isa.specs.Elements.{Outcome, gives, fails, wrong}
 use Rattle.sc_isa.specs.Pure.{truth, computed}
-use Rattle.sc_isa.specs.Steps as steps
-use Rattle.sc_isa.specs.Deeds.{Made, makes, faults, stuck, uses, sets, reads, writes, calls, Done, lets_go, ends, sticks, clears, prints, fills, gets, misses, puts, sends, copies, waits, meets, done}
+use Rattle.sc_isa.specs.Deeds.{Made, makes, faults, stuck, uses, sets, reads, writes, calls, Done, lets_go, ends, sticks, clears, prints, fills, gets, misses, puts, sends, copies, waits, meets}
 use Rattle.sc_core.specs.declared.operation.Action.{Action}
-use Rattle.sc_core.specs.declared.operation.Action.TheVariants.{Drop, Begin, Clear, Fill, Get, Put, Send, Copy, Print, Sync, Barrier, AllStoreSync}
+use Rattle.sc_core.specs.declared.operation.Action.TheVariants.{Copy}
 use Rattle.sc_meaning.specs.declared.request.Request.{Request}
 use Rattle.sc_meaning.specs.declared.request.Request.TheVariants as request
-use Rattle.sc_meaning.specs.Asking.{PointedDoing, Requested, Answer, Shown, Landed, Passed, Broken, Finishes, Breaks, fits_read, fits_sync, fits_barrier}
+use Rattle.sc_meaning.specs.Asking.{PointedDoing, Requested, Answer, Shown, Landed, Broken, Finishes, Breaks, fits_read, fits_sync, fits_barrier}
 use Rattle.sc_meaning.specs.Memory.{Slot, has, awaits, Memory, slot, with_slot, with_get, places, synced}
 
 -- what comes after, by what is remembered and what the budget leaves
@@ -95,25 +92,6 @@ perform layout call (writes place v) line go m left = Makes (Requested (request.
 perform layout call (calls f vs) line go m left = call f vs line go m left
 
 -- ---- steps without one
-
--- what the action does with the values of its arguments
-abbrev pub text_at : List Text → ℕ → (List ℕ → Done) → Done
-text_at texts text go = option_map_or go (slice_get texts text) sticks
-
-abbrev pub done_of : Arrangement → List Text → Action → List Value → Done
-done_of layout texts Drop vs = done layout steps.drop vs
-done_of layout texts (Begin x) (v ∷ []) = clears x v
-done_of layout texts (Begin x) vs = sticks
-done_of layout texts (Clear x pointer) vs = done layout (steps.clear x pointer) vs
-done_of layout texts (Fill x) vs = done layout (steps.fill x) vs
-done_of layout texts (Get x) vs = done layout (steps.get x) vs
-done_of layout texts Put vs = done layout steps.put vs
-done_of layout texts Send vs = done layout steps.send vs
-done_of layout texts (Copy mode) vs = done layout steps.copy vs
-done_of layout texts (Print text n) vs = text_at texts text (λ format. done layout (steps.print format n) vs)
-done_of layout texts Sync vs = done layout (steps.wait 0) vs
-done_of layout texts Barrier vs = done layout (steps.barrier false) vs
-done_of layout texts AllStoreSync vs = done layout (steps.barrier true) vs
 
 -- how what the action copies is waited for
 abbrev pub mode_of : Action → CopyMode

@@ -1,6 +1,6 @@
 -- The test whether an event is allowed after a past, by which replay and the source order compute: one line for each
 -- condition of a legal history, after Lamport's sequential consistency (1979).
-use Rattle.std.specs.Prelude.{◌≡◌, ◌↔◌, ℕ, ◌+◌, List, ◌∷◌, length, slice_get, Option, is_none, is_some, Bool, true, false, not, ◌==◌, ◌&&◌, ◌||◌, nat_lt, nat_le, if◌then◌else◌}
+use Rattle.std.specs.Prelude.{ℕ, ◌+◌, List, ◌∷◌, length, slice_get, Option, is_none, is_some, Bool, true, false, not, ◌==◌, ◌&&◌, ◌||◌, nat_lt, nat_le, if◌then◌else◌}
 use Rattle.std.specs.Option.{option_map_or}
 use Rattle.sc_base.specs.declared.value.Value.{Value}
 use Rattle.sc_base.specs.declared.value.Place.{Place}
@@ -19,7 +19,6 @@ use Rattle.effect_order.specs.Transfer.{Transfer, part_place, part_value, writte
 use Rattle.sc_meaning.specs.Asking.{Halt, Finishes, Breaks}
 use Rattle.sc_meaning.specs.Parts.{transfer_of, is_blocking_copy, is_split, is_one_way, is_issued}
 use Rattle.sc_meaning.specs.Past.{Processes, effects, shown, releases, arrivals, stores_at, made, ended, run_so_far, request_at}
-use Rattle.sc_meaning.specs.History.{Allowed}
 
 abbrev pub same_kind : FaultKind → FaultKind → Bool
 same_kind fault.Divide fault.Divide = true
@@ -132,7 +131,3 @@ allowed processes past (Arrive node request stores) = is_next processes past nod
 allowed processes past (Release number) = may_release processes past number
 allowed processes past (Over node Waiting) = may_give_up processes past node
 allowed processes past (Over node end) = may_end processes past node end
-
--- the test is exact
-abbrev pub TestIsExact : Type 0
-TestIsExact = (processes : Processes) (past : List SourceEvent) (event : SourceEvent) → (allowed processes past event ≡ true) ↔ Allowed processes past event
