@@ -1,0 +1,12 @@
+pub mod Core
+pub mod Places
+pub mod Expressions
+pub mod Statements
+pub mod Lowering
+pub mod Kinds
+pub mod Typed
+pub mod View
+pub mod ViewStatements
+pub mod Table
+pub mod Forms
+pub mod Shown

@@ -1,0 +1,13 @@
+pub mod Asking
+pub mod Memory
+pub mod Points
+pub mod Steps
+pub mod Meaning
+pub mod Parts
+pub mod Past
+pub mod History
+pub mod Whole
+pub mod Below
+pub mod Test
+pub mod CompleteTest
+pub mod Source
