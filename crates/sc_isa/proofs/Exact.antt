@@ -1,5 +1,5 @@
 -- The test whether a value may stand in a cell is exact.
-use Rattle.std.proofs.Common.{◌≡◌, ◌≢◌, ◌↔◌, ℕ, ◌^◌, ◌<◌, ℤ, pos, negsuc, nat_lt, Option, Some, None, Bool, true, false, not, ◌&&◌, List, [], ◌∷◌, ◌++◌, slice_get, IsSomeAnd, refl, sym, ap}
+use Rattle.std.proofs.Common.{◌≡◌, ◌≢◌, ◌↔◌, ◌^◌, ℤ, pos, negsuc, nat_lt, Option, Some, None, Bool, true, false, not, ◌&&◌, List, [], ◌∷◌, ◌++◌, slice_get, IsSomeAnd, refl, sym, ap}
 use Rattle.std.specs.Prelude.{FitsSigned}
 use Rattle.std.specs.Int.{w64}
 use Rattle.std.proofs.lemmas.Bool.{ltb-true, lt-ltb}

@@ -1,23 +1,21 @@
 -- Small codes run by computation: what the instruction table says of landing values, of the order of tests, of
 -- budgets and frames, and of barriers.
-use Rattle.std.proofs.Common.{◌≡◌, ℕ, zero, suc, ◌+◌, ◌^◌, ◌<◌, ℤ, pos, negsuc, true, false, Bool, Option, Some, None, List, [], ◌∷◌, ◌++◌, length, map, refl, lit<}
+use Rattle.std.proofs.Common.{◌≡◌, ℕ, ◌+◌, ◌^◌, ◌<◌, ℤ, pos, negsuc, true, false, Bool, List, [], ◌∷◌, ◌++◌, length, map, refl, lit<}
 use Rattle.std.specs.Prelude.{codes}
 use Rattle.resumption.specs.Resumption.{Ends as Ended_by, Short, RunOf}
 use Rattle.sc_base.specs.declared.operator.Binary.TheVariants.{Add}
 use Rattle.sc_base.specs.declared.shape.Bound.{Bound}
-use Rattle.sc_base.specs.declared.shape.Shape.{Shape}
 use Rattle.sc_base.specs.declared.value.CopyMode.TheVariants.{Split}
 use Rattle.sc_base.specs.declared.value.End.{End}
 use Rattle.sc_base.specs.declared.value.End.TheVariants.{Ended, Fault, Cut, Waiting}
 use Rattle.sc_base.specs.declared.value.FaultKind.TheVariants.{PendingUse, NullUse, Index, BadSize, Depth}
 use Rattle.sc_base.specs.declared.value.Place.{Place}
-use Rattle.sc_base.specs.declared.value.Value.TheVariants.{Int, Null, Ptr}
+use Rattle.sc_base.specs.declared.value.Value.TheVariants.{Int, Null}
 use Rattle.sc_layout.specs.Layout.{LaidObject, Arrangement, cells_of}
 use Rattle.sc_layout.specs.Place.{place_in}
 use Rattle.sc_isa.specs.declared.access.Access.TheVariants.{Read, Write, Copy}
 use Rattle.sc_isa.specs.declared.access.Track.TheVariants.{Counter, Store, Covered}
 use Rattle.sc_isa.specs.declared.code.Code.{Code}
-use Rattle.sc_isa.specs.declared.code.FnRow.{FnRow}
 use Rattle.sc_isa.specs.declared.op.Instr.{Instr}
 use Rattle.sc_isa.specs.declared.op.Op.{Op}
 use Rattle.sc_isa.specs.declared.op.Op.TheVariants as op

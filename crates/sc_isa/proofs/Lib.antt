@@ -4,3 +4,4 @@ pub mod Moving
 pub mod Settling
 pub mod Exact
 pub mod Examples
+pub mod Counters

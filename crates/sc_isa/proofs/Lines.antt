@@ -1,5 +1,5 @@
 -- The lines of a listing, one after another.
-use Rattle.std.proofs.Common.{◌≡◌, ℕ, suc, ◌+◌, ◌<◌, List, [], ◌∷◌, ◌++◌, length, drop, get_or, refl, sym, ◌∙◌, ap, add-one, drop-cons}
+use Rattle.std.proofs.Common.{◌≡◌, ℕ, suc, ◌+◌, ◌<◌, List, ◌∷◌, ◌++◌, length, drop, get_or, refl, sym, ◌∙◌, ap, add-one, drop-cons}
 use Rattle.sc_isa.specs.declared.code.FnRow.{FnRow}
 use Rattle.sc_isa.specs.declared.op.Instr.{Instr}
 use Rattle.sc_isa.specs.Listing.{heading_if, headings, instr_line, lines_from}

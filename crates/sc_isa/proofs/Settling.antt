@@ -1,22 +1,20 @@
 -- Sound code settles: each instruction makes a rank of the state less.
-use Rattle.std.proofs.Common.{◌≡◌, ◌≢◌, ℕ, zero, suc, ◌+◌, ◌*◌, ◌<◌, ◌≤◌, Option, Some, None, Bool, true, false, List, [], ◌∷◌, length, slice_get, refl, sym, ap, ◌∙◌, arith, subst}
-use Rattle.std.specs.List.{All}
+use Rattle.std.proofs.Common.{◌≡◌, ℕ, zero, suc, ◌+◌, ◌*◌, ◌<◌, ◌≤◌, Option, Some, None, Bool, true, false, List, [], length, slice_get, refl, arith}
 use Rattle.std.specs.Option.{option_map_or}
 use Rattle.std.proofs.Common.{inl, inr}
 use Rattle.std.proofs.Math.Nat.{mul-le-mul_right, eq-or-lt_of_le}
 use Rattle.std.proofs.lemmas.Option.{slice_get_within}
-use Rattle.resumption.specs.Resumption.{Ends as Ended_by, RunOf, unanswered, after_event, after_text, run_of}
+use Rattle.resumption.specs.Resumption.{run_of}
 use Rattle.sc_layout.specs.Layout.{Arrangement}
 use Rattle.sc_isa.specs.declared.code.Code.{Code}
 use Rattle.sc_isa.specs.declared.op.Instr.{Instr}
 use Rattle.sc_isa.specs.State.{State, at_instr}
-use Rattle.sc_isa.specs.Moves.{Move}
 use Rattle.sc_isa.specs.Table.{does_op, does_instr, step_of}
 use Rattle.sc_isa.specs.Begin.{begin}
-use Rattle.sc_isa.specs.Run.{Ask, Answer, Halt, UsedUp, Finish, Stuck, asks_from, code_run}
-use Rattle.sc_isa.specs.Sound.{Leads, Reached, begun, then_, IsDone, is_bounded, is_bounded_at, IsSound}
+use Rattle.sc_isa.specs.Run.{Answer, asks_from, code_run}
+use Rattle.sc_isa.specs.Sound.{Leads, Reached, begun, then_, IsDone, is_bounded, IsSound}
 use Rattle.sc_isa.specs.Laws.{IsPlacedAsk, RunsSoundly, Settles}
-use Rattle.sc_isa.proofs.Moving.{stopped, Kept, move_good, IsKnown, move_same}
+use Rattle.sc_isa.proofs.Moving.{Kept, move_good, sound_move, all_nothing, all_more, IsKnown, move_same}
 use Rattle.sc_isa.proofs.Weights.{weight, Weighs, weighs_leads, op_weighs}
 
 -- ---- more instructions change nothing
@@ -102,7 +100,7 @@ module _ (code : Code) (layout : Arrangement) (sound : IsSound code layout) (nod
 
   -- ---- known
 
-  known_kept : Kept layout IsKnown
+  known_kept : Kept (IsPlacedAsk layout) IsKnown
   known_kept = record {
     finished = λ end h. absurd (cc);
     waiting = λ ask p h. absurd (cc);
@@ -114,8 +112,10 @@ module _ (code : Code) (layout : Arrangement) (sound : IsSound code layout) (nod
       → IsKnown (run_of (asks_from code layout node many s) answers)
   known zero s answers r lt = absurd (omega arith)
   known (suc many) s answers r lt =
-      move_good layout IsKnown known_kept (asks_from code layout node many) (step_of code layout node s) answers
-      (sound.never_stuck node budget s in_layout r) (sound.placed node budget s in_layout r)
+      move_good layout (IsPlacedAsk layout) IsKnown known_kept (asks_from code layout node many)
+      (step_of code layout node s) answers
+      (sound_move layout IsKnown (step_of code layout node s) (sound.never_stuck node budget s in_layout r)
+      (sound.placed node budget s in_layout r))
       (λ next answers l. known many next answers (then_ s next r l) (omega (arith, rank_falls s next r l)))
 
   begins : Comes_to (begin code budget)
@@ -133,29 +133,30 @@ module _ (code : Code) (layout : Arrangement) (sound : IsSound code layout) (nod
 
   -- ---- soundly
 
-  all_nothing : All (IsPlacedAsk layout) []
-  all_nothing k d lt = absurd (omega arith)
-
-  all_more : (ask : Ask) (asks : List Ask) → IsPlacedAsk layout ask → All (IsPlacedAsk layout) asks
-      → All (IsPlacedAsk layout) (ask ∷ asks)
-  all_more ask asks p h zero d lt = p
-  all_more ask asks p h (suc k) d lt = h k d (omega arith)
-
-  soundly_kept : Kept layout (RunsSoundly layout)
+  soundly_kept : Kept (IsPlacedAsk layout) (RunsSoundly layout)
   soundly_kept = record {
-    finished = λ end. record { not_stuck = λ h. absurd (cc); placed = all_nothing };
-    waiting = λ ask p. record { not_stuck = λ h. absurd (cc); placed = all_more ask [] p all_nothing };
-    event = λ ask run p g. record { not_stuck = g.not_stuck; placed = all_more ask run.events p g.placed };
+    finished = λ end. record { not_stuck = λ h. absurd (cc); placed = all_nothing (IsPlacedAsk layout) };
+    waiting = λ ask p. record {
+      not_stuck = λ h. absurd (cc);
+      placed =
+          all_more (IsPlacedAsk layout) ask [] p (all_nothing (IsPlacedAsk layout));
+    };
+    event = λ ask run p g. record {
+      not_stuck = g.not_stuck;
+      placed =
+          all_more (IsPlacedAsk layout) ask run.events p g.placed;
+    };
     said = λ text run g. record { not_stuck = g.not_stuck; placed = g.placed };
   }
 
   soundly_from : (many : ℕ) (s : State) (answers : List Answer) → Comes_to s
       → RunsSoundly layout (run_of (asks_from code layout node many s) answers)
-  soundly_from zero s answers r = record { not_stuck = λ h. absurd (cc); placed = all_nothing }
+  soundly_from zero s answers r = record { not_stuck = λ h. absurd (cc); placed = all_nothing (IsPlacedAsk layout) }
   soundly_from (suc many) s answers r =
-      move_good layout (RunsSoundly layout) soundly_kept (asks_from code layout node many)
+      move_good layout (IsPlacedAsk layout) (RunsSoundly layout) soundly_kept (asks_from code layout node many)
       (step_of code layout node s) answers
-      (sound.never_stuck node budget s in_layout r) (sound.placed node budget s in_layout r)
+      (sound_move layout (RunsSoundly layout) (step_of code layout node s)
+      (sound.never_stuck node budget s in_layout r) (sound.placed node budget s in_layout r))
       (λ next answers l. soundly_from many next answers (then_ s next r l))
 
   pub soundly : (many : ℕ) (answers : List Answer)

@@ -1,12 +1,10 @@
 -- What is left of the budget, and the frames: a turn, a call and a return make their sum less, and no other
 -- instruction changes it.
-use Rattle.std.proofs.Common.{◌≡◌, ℕ, zero, suc, ◌+◌, ◌*◌, ◌<◌, Option, Some, None, Bool, true, false, if◌then◌else◌, nat_lt, nat_le, List, [], ◌∷◌, ◌++◌, length, map, slice_get, ℤ, pos, negsuc, refl, sym, ap, ◌∙◌, arith, subst, Result, Ok, Err, ◌==◌, ◌%◌, ◌/◌, ◌&&◌}
+use Rattle.std.proofs.Common.{◌≡◌, ℕ, zero, suc, ◌+◌, ◌*◌, ◌<◌, Option, Some, None, Bool, true, false, if◌then◌else◌, nat_lt, nat_le, List, [], ◌∷◌, length, slice_get, pos, negsuc, refl, sym, ap, arith, subst, ◌&&◌}
 use Rattle.std.proofs.lemmas.List.{length-map}
 use Rattle.sc_base.specs.declared.limits.TheConstants.{LIMITS}
-use Rattle.sc_base.specs.declared.value.CopyMode.TheVariants.{Blocking, Split, OneWay}
 use Rattle.sc_base.specs.declared.value.End.TheVariants.{Fault}
 use Rattle.sc_base.specs.declared.value.FaultKind.TheVariants.{Depth}
-use Rattle.sc_base.specs.declared.value.Place.{Place}
 use Rattle.sc_base.specs.declared.value.Value.{Value}
 use Rattle.sc_base.specs.declared.value.Value.TheVariants.{Int, Null, Ptr}
 use Rattle.sc_layout.specs.Layout.{Arrangement}
@@ -25,10 +23,10 @@ use Rattle.sc_isa.specs.Pure.{push, null, mine, procs, elem, step, glob, to_loca
 use Rattle.sc_isa.specs.Deeds.{Gain, pure, load, set, read, write, call, Act, clear, print, fill, get, put, send, copy, wait, barrier}
 use Rattle.sc_isa.specs.Deeds.{Made, makes, faults, stuck, uses, sets, reads, writes, calls, made, made_by, reading, writing, Spotted, found, missing, nowhere, spotted, takes, uses_up, done}
 use Rattle.sc_isa.specs.Deeds.{Done, lets_go, ends, sticks, clears, prints, fills, gets, misses, puts, sends, copies, waits, meets}
-use Rattle.sc_isa.specs.State.{Frame, State, landed, pushed, with_stack, with_left, land_frame}
-use Rattle.sc_isa.specs.Moves.{After, GoesOn, Ends, Sticks, Move, Comes, Issues, Waits, Meets, Says, Taken, taken, local_value, none_pending, counted, one_deeper, called, call_of, gain_done, act_done}
+use Rattle.sc_isa.specs.State.{Frame, State, landed, with_stack, land_frame}
+use Rattle.sc_isa.specs.Moves.{After, GoesOn, Ends, Sticks, Move, Comes, Issues, Waits, Meets, Says, Taken, taken, local_value, none_pending, counted, one_deeper, called, gain_done, act_done}
 use Rattle.sc_isa.specs.Table.{gained, acted, duplicated, dropped, swapped, jumped, returned, left_with, at_site, at_counter, calls_row, prints_text, copy_track, does_op}
-use Rattle.sc_isa.specs.Sound.{IsAfter, Lands, Leads, is_bounded}
+use Rattle.sc_isa.specs.Sound.{IsAfter, Leads, is_bounded}
 
 abbrev pub weight : State → ℕ
 weight s = 2 * s.left + length s.callers

@@ -1,5 +1,5 @@
 -- Whether a value may stand in a cell, as a test.
-use Rattle.std.specs.Prelude.{ℕ, ◌^◌, ℤ, pos, negsuc, nat_lt, Option, Some, None, Bool, true, false, not, ◌&&◌, List, [], ◌∷◌, slice_get}
+use Rattle.std.specs.Prelude.{◌^◌, ℤ, pos, negsuc, nat_lt, Option, Some, None, Bool, true, false, not, ◌&&◌, List, [], ◌∷◌, slice_get}
 use Rattle.sc_base.specs.declared.shape.Star.{Star}
 use Rattle.sc_base.specs.declared.shape.Star.TheVariants.{Local, Global, Spread}
 use Rattle.sc_base.specs.declared.shape.Ty.{Ty}

@@ -6,10 +6,14 @@ use Rattle.sc_base.specs.declared.value.Place.{Place}
 use Rattle.sc_base.specs.declared.value.Value.{Value}
 use Rattle.sc_layout.specs.Layout.{Arrangement}
 use Rattle.sc_layout.specs.Place.{Fits}
+use Rattle.sc_isa.specs.declared.access.Access.{Access}
+use Rattle.sc_isa.specs.declared.access.Access.TheVariants.{Read, Write, Copy}
+use Rattle.sc_isa.specs.declared.access.Track.{Track}
+use Rattle.sc_isa.specs.declared.access.Track.TheVariants.{Counter}
 use Rattle.sc_isa.specs.declared.code.Code.{Code}
 use Rattle.sc_isa.specs.Fitting.{fits}
 use Rattle.sc_isa.specs.State.{State}
-use Rattle.sc_isa.specs.Run.{Ask, Issue, Answer, Halt, Stuck, UsedUp, asks_from, code_run}
+use Rattle.sc_isa.specs.Run.{Ask, Issue, Wait, Answer, Halt, Stuck, UsedUp, asks_from, code_run}
 use Rattle.sc_isa.specs.Sound.{IsPlaced, IsSound}
 
 -- a run that has not used up its instructions does the same with more of them
@@ -44,6 +48,26 @@ abbrev pub SoundCodeRunsSoundly : Type 0
 SoundCodeRunsSoundly =
     (code : Code) (layout : Arrangement) (node budget many : ℕ) (answers : List Answer)
     → IsSound code layout → node < layout.nodes → RunsSoundly layout (code_run code layout node budget many answers)
+
+abbrev pub HasCounter : Code → Track → Type 0
+HasCounter code (Counter counter) = counter ≤ code.sites
+HasCounter code _ = Unit {0}
+
+abbrev pub track_of : Access → Track
+track_of (Read place track) = track
+track_of (Write place value track) = track
+track_of (Copy from to cells track) = track
+
+-- the ask names no counter that the code does not have
+abbrev pub IsOfCode : Code → Ask → Type 0
+IsOfCode code (Issue access) = HasCounter code (track_of access)
+IsOfCode code (Wait counter) = counter ≤ code.sites
+IsOfCode code _ = Unit {0}
+
+abbrev pub AsksForItsCounters : Type 0
+AsksForItsCounters =
+    (code : Code) (layout : Arrangement) (node budget many : ℕ) (answers : List Answer)
+    → All (IsOfCode code) (code_run code layout node budget many answers).events
 
 -- the test of a value is exact
 abbrev pub FitsIsExact : Type 0

@@ -1,5 +1,5 @@
 -- The code's run on a node: a resumption that asks as the instructions do, for each number of instructions.
-use Rattle.std.specs.Prelude.{ℕ, zero, suc, Bool, true, false, List, []}
+use Rattle.std.specs.Prelude.{ℕ, zero, suc, Bool, true, false, List}
 use Rattle.resumption.specs.Resumption.{Doing, Asks, Makes, Says as Tells, Stops, RunOf, run_of}
 use Rattle.sc_base.specs.declared.value.End.{End}
 use Rattle.sc_base.specs.declared.value.End.TheVariants.{Waiting}

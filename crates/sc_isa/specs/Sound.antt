@@ -13,7 +13,7 @@ use Rattle.sc_isa.specs.declared.op.Op.{Op}
 use Rattle.sc_isa.specs.declared.op.Op.TheVariants as op
 use Rattle.sc_isa.specs.Fitting.{fits_all}
 use Rattle.sc_isa.specs.State.{State, reads_on, landed}
-use Rattle.sc_isa.specs.Moves.{After, GoesOn, Ends, Sticks, Move, Comes, Issues, Waits, Meets, Says}
+use Rattle.sc_isa.specs.Moves.{After, GoesOn, Sticks, Move, Comes, Issues, Waits, Meets, Says}
 use Rattle.sc_isa.specs.Table.{step_of}
 use Rattle.sc_isa.specs.Begin.{begin}
 

@@ -1,6 +1,6 @@
 -- The instruction table: what each instruction of the code does to a node's state, as one function to what comes
 -- next.
-use Rattle.std.specs.Prelude.{ℕ, zero, suc, ◌+◌, pos, nat_lt, nat_le, ◌&&◌, if◌then◌else◌, Option, Some, None, Bool, true, false, List, [], ◌∷◌, slice_get}
+use Rattle.std.specs.Prelude.{ℕ, zero, ◌+◌, pos, nat_lt, nat_le, ◌&&◌, if◌then◌else◌, Option, Some, None, true, false, List, [], ◌∷◌, slice_get}
 use Rattle.sc_base.specs.declared.value.CopyMode.{CopyMode}
 use Rattle.sc_base.specs.declared.value.CopyMode.TheVariants.{Blocking, Split, OneWay}
 use Rattle.sc_base.specs.declared.value.End.TheVariants.{Ended}
