@@ -1,0 +1,4 @@
+pub mod Pool
+pub mod Chains
+pub mod Slots
+pub mod Sound
