@@ -2,3 +2,4 @@ pub mod Pool
 pub mod Chains
 pub mod Slots
 pub mod Sound
+pub mod Inner

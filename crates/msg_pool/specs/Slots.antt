@@ -1,15 +1,16 @@
 -- The messages of a slab as links, and how a chain changes there. No public clause cites this module.
-use Rattle.std.specs.Prelude.{◌≡◌, ℕ, ◌+◌, ◌-◌, Option, Some, None, is_none, if◌then◌else◌, slice_set, unwrap_or}
-use Rattle.std.specs.Option.{option_map, option_or}
+use Rattle.std.specs.Prelude.{◌≡◌, ℕ, Option, Some, None, slice_set, unwrap_or}
+use Rattle.std.specs.Option.{option_map}
 use Rattle.slab.specs.Slab.{Slab, get, ContainsKey}
+use Rattle.sc_base.specs.declared.value.Place.{Place}
 use Rattle.sc_base.specs.declared.value.Value.TheVariants.{Null}
 use Rattle.sc_isa.specs.declared.access.Track.TheVariants.{Store}
+use Rattle.msg_pool.specs.declared.message.Message.{Message}
 use Rattle.msg_pool.specs.declared.message.Part.TheVariants.{Write}
 use Rattle.msg_pool.specs.declared.slot.Grouping.{Grouping}
 use Rattle.msg_pool.specs.declared.slot.Grouping.TheVariants.{Every, Issuer, Target}
 use Rattle.msg_pool.specs.declared.slot.Link.{Link}
 use Rattle.msg_pool.specs.declared.slot.Slot.{Slot}
-use Rattle.msg_pool.specs.declared.chain.Chain.{Chain}
 use Rattle.msg_pool.specs.Chains.{Links}
 use Rattle.msg_pool.specs.Pool.{Pending, target_of}
 
@@ -32,10 +33,10 @@ with_previous Issuer previous slot = record slot { issuer = record slot.issuer {
 with_previous Target previous slot = record slot { target = record slot.target { previous = previous } }
 
 -- the group of a message: all are one group, or the issuer's, or the target's
-abbrev pub group_of : Grouping → Slot → ℕ
-group_of Every slot = 0
-group_of Issuer slot = slot.message.issuer
-group_of Target slot = target_of slot.message
+abbrev pub group_of : Grouping → Message → ℕ
+group_of Every message = 0
+group_of Issuer message = message.issuer
+group_of Target message = target_of message
 
 -- the slab with the message of that key changed, if a key is given
 abbrev pub changed : (Slot → Slot) → Option ℕ → Slab Slot → Slab Slot
@@ -51,10 +52,13 @@ Holds slots (Some key) = ContainsKey slots key
 abbrev pub no_slot : Slot
 no_slot =
     let none : Link = record { next = None; previous = None } in
+    let nowhere : Place = record { object = 0; node = 0; offset = 0 } in
     record {
       serial = 0;
-      message = record { issuer = 0; number = 0; cell = 0; track = Store; part = Write (record { object = 0; node = 0; offset = 0 }) Null };
-      every = none; issuer = none; target = none;
+      message = record { issuer = 0; number = 0; cell = 0; track = Store; part = Write nowhere Null };
+      every = none;
+      issuer = none;
+      target = none;
     }
 
 -- what is kept under the key
@@ -67,20 +71,9 @@ link_at grouping slots key = option_map (link_of grouping) (get slots key)
 
 -- the group of the key
 abbrev pub group_at : Grouping → Slab Slot → ℕ → ℕ
-group_at grouping slots key = group_of grouping (slot_at slots key)
+group_at grouping slots key = group_of grouping (slot_at slots key).message
 
 -- the pending message of the key
 abbrev pub pending_at : Slab Slot → ℕ → Pending
-pending_at slots key = record { id = record { key = key; serial = (slot_at slots key).serial }; message = (slot_at slots key).message }
-
--- the chain with this key behind its last one
-abbrev pub chain_with : Chain → ℕ → Chain
-chain_with chain key = record { head = option_or chain.head (Some key); tail = Some key; count = chain.count + 1 }
-
--- the chain without the key that has these neighbours
-abbrev pub chain_without : Chain → Link → Chain
-chain_without chain link = record {
-  head = if is_none link.previous then link.next else chain.head;
-  tail = if is_none link.next then link.previous else chain.tail;
-  count = chain.count - 1;
-}
+pending_at slots key =
+    record { id = record { key = key; serial = (slot_at slots key).serial }; message = (slot_at slots key).message }

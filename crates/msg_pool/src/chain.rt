@@ -1,8 +1,8 @@
 //! Doubly linked lists over the entries of a slab. Each step is the same for each of a message's lists.
 
 ghost use Rattle.std.specs.Prelude.{◌≡◌, ◌<◌, ◌+◌, ◌-◌, ◌^◌, slice_get};
-ghost use Rattle.msg_pool.specs.Chains.{empty_chain, next_in, previous_in, forward, IsChain};
-ghost use Rattle.msg_pool.specs.Slots.{Holds, changed, with_next, with_previous, link_at, chain_with, chain_without};
+ghost use Rattle.msg_pool.specs.Chains.{empty_chain, next_in, previous_in, walk_of, IsWalked, chain_with, chain_without};
+ghost use Rattle.msg_pool.specs.Slots.{Holds, changed, with_next, with_previous, link_at};
 
 use crate::slot::{Grouping, Link, Slot};
 use slab::Slab;
@@ -71,10 +71,8 @@ pub fn unlinked(slots: &mut Slab<Slot>, grouping: Grouping, chain: Chain, link: 
     requires next { Holds slots.old link.next }
     requires previous { Holds slots.old link.previous }
     requires some { 0 < chain.count }
-    ensures slots {
-        slots.new ≡ changed (with_previous grouping link.previous) link.next
-            (changed (with_next grouping link.next) link.previous slots.old)
-    }
+    ensures slots { slots.new ≡ changed (with_previous grouping link.previous) link.next
+        (changed (with_next grouping link.next) link.previous slots.old) }
     ensures chain { result ≡ chain_without chain link }
 {
     relink_next(slots, grouping, link.previous, link.next);
@@ -110,8 +108,8 @@ fn previous(slots: &Slab<Slot>, grouping: Grouping, at: Option<usize>) -> Option
 
 /// The key of the message that is number `k` of the list, counted from 0. It is looked for from the nearer end.
 pub fn nth(slots: &Slab<Slot>, grouping: Grouping, chain: Chain, k: u64) -> Option<usize>
-    requires { IsChain (link_at grouping slots.now) chain (forward (link_at grouping slots.now) chain.head chain.count) }
-    ensures { result ≡ slice_get (forward (link_at grouping slots.now) chain.head chain.count) k }
+    requires { IsWalked (link_at grouping slots.now) chain }
+    ensures { result ≡ slice_get (walk_of (link_at grouping slots.now) chain) k }
 {
     if k >= chain.count {
         return None;
@@ -125,8 +123,8 @@ pub fn nth(slots: &Slab<Slot>, grouping: Grouping, chain: Chain, k: u64) -> Opti
 
 /// The key that is `steps` behind the first one.
 fn from_head(slots: &Slab<Slot>, grouping: Grouping, chain: Chain, steps: u64) -> Option<usize>
-    requires { IsChain (link_at grouping slots.now) chain (forward (link_at grouping slots.now) chain.head chain.count) }
-    ensures { result ≡ slice_get (forward (link_at grouping slots.now) chain.head chain.count) steps }
+    requires { IsWalked (link_at grouping slots.now) chain }
+    ensures { result ≡ slice_get (walk_of (link_at grouping slots.now) chain) steps }
 {
     let mut at = chain.head;
     for _ in 0..steps {
@@ -137,9 +135,9 @@ fn from_head(slots: &Slab<Slot>, grouping: Grouping, chain: Chain, steps: u64) -
 
 /// The key that is `steps` before the last one.
 fn from_tail(slots: &Slab<Slot>, grouping: Grouping, chain: Chain, steps: u64) -> Option<usize>
-    requires linked { IsChain (link_at grouping slots.now) chain (forward (link_at grouping slots.now) chain.head chain.count) }
+    requires linked { IsWalked (link_at grouping slots.now) chain }
     requires within { steps < chain.count }
-    ensures { result ≡ slice_get (forward (link_at grouping slots.now) chain.head chain.count) (chain.count - 1 - steps) }
+    ensures { result ≡ slice_get (walk_of (link_at grouping slots.now) chain) (chain.count - 1 - steps) }
 {
     let mut at = chain.tail;
     for _ in 0..steps {

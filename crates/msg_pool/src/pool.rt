@@ -1,6 +1,7 @@
 //! The pool.
 
-ghost use Rattle.std.specs.Prelude.{◌≡◌, ◌≤◌, ◌<◌, ◌+◌, ◌^◌, ◌↔◌, IfOk, OnOk, IfSome, IfNone, IsSome, length, slice_get, replicate};
+ghost use Rattle.std.specs.Prelude.{◌≡◌, ◌≤◌, ◌<◌, ◌+◌, ◌^◌, ◌↔◌};
+ghost use Rattle.std.specs.Prelude.{IfOk, OnOk, IfSome, IfNone, IsSome, length, slice_get, replicate};
 ghost use Rattle.msg_pool.specs.Pool.{empty_pool, target_of, of_issuer, to_target, ids, IsPending, with_message, Takes};
 ghost use Rattle.slab.specs.Slab.{ContainsKey, get};
 ghost use Rattle.msg_pool.specs.declared.slot.Slot.{Slot};
@@ -33,10 +34,11 @@ impl Model for MsgPool {
     ghost Value = { Pool };
 
     ghost use Rattle.msg_pool.specs.Sound.{pool_of, IsPool};
+    ghost use Rattle.msg_pool.specs.Inner.{parts_of};
 
-    ghost view = { λ p. pool_of (record { slots = p.slots; every = p.every; issuers = p.issuers.items; targets = p.targets.items; puts = p.puts }) };
+    ghost view = { λ p. pool_of (parts_of p) };
 
-    ghost invariant = { λ p. IsPool (record { slots = p.slots; every = p.every; issuers = p.issuers.items; targets = p.targets.items; puts = p.puts }) };
+    ghost invariant = { λ p. IsPool (parts_of p) };
 }
 
 impl MsgPool {
@@ -81,23 +83,25 @@ impl MsgPool {
         ensures serial { result.serial ≡ self.old.puts }
         ensures fresh { IsPending self.old result → ⊥ }
     {
-        let issuer = message.issuer as usize;
-        let target = message.target() as usize;
         let serial = self.puts;
+        let issuer = message.issuer;
+        let target = message.target();
+        let of_issuer = chain_of(self.issuers.as_slice(), issuer);
+        let to_target = chain_of(self.targets.as_slice(), target);
         let slot = Slot {
             serial,
             message,
             every: behind(self.every),
-            issuer: behind(self.issuers[issuer]),
-            target: behind(self.targets[target]),
+            issuer: behind(of_issuer),
+            target: behind(to_target),
         };
         let key = self.slots.insert_reserved(slot);
         let every = appended(&mut self.slots, Grouping::Every, self.every, key);
-        let of_issuer = appended(&mut self.slots, Grouping::Issuer, self.issuers[issuer], key);
-        let to_target = appended(&mut self.slots, Grouping::Target, self.targets[target], key);
+        let of_issuer = appended(&mut self.slots, Grouping::Issuer, of_issuer, key);
+        let to_target = appended(&mut self.slots, Grouping::Target, to_target, key);
         self.every = every;
-        self.issuers[issuer] = of_issuer;
-        self.targets[target] = to_target;
+        self.issuers[issuer as usize] = of_issuer;
+        self.targets[target as usize] = to_target;
         self.puts = serial + 1;
         MsgId {
             key: key as u64,
@@ -112,26 +116,17 @@ impl MsgPool {
         ensures absent { IfNone result (self.new ≡ self.old) }
     {
         let slot = slot_of(&self.slots, id)?;
-        let key = id.key as usize;
-        let issuer = slot.message.issuer as usize;
-        let target = slot.message.target() as usize;
+        let issuer = slot.message.issuer;
+        let target = slot.message.target();
+        let of_issuer = chain_of(self.issuers.as_slice(), issuer);
+        let to_target = chain_of(self.targets.as_slice(), target);
         let every = unlinked(&mut self.slots, Grouping::Every, self.every, slot.every);
-        let of_issuer = unlinked(
-            &mut self.slots,
-            Grouping::Issuer,
-            self.issuers[issuer],
-            slot.issuer,
-        );
-        let to_target = unlinked(
-            &mut self.slots,
-            Grouping::Target,
-            self.targets[target],
-            slot.target,
-        );
+        let of_issuer = unlinked(&mut self.slots, Grouping::Issuer, of_issuer, slot.issuer);
+        let to_target = unlinked(&mut self.slots, Grouping::Target, to_target, slot.target);
         self.every = every;
-        self.issuers[issuer] = of_issuer;
-        self.targets[target] = to_target;
-        self.slots.remove(key);
+        self.issuers[issuer as usize] = of_issuer;
+        self.targets[target as usize] = to_target;
+        self.slots.remove(id.key as usize);
         Some(slot.message)
     }
 
