@@ -1,19 +1,18 @@
 -- The keys of a pool's messages, and what the pool shows of them.
-use Rattle.std.proofs.Common.{◌≡◌, ◌≢◌, ◌⊎◌, ℕ, zero, suc, ◌+◌, ◌-◌, ◌<◌, ◌≤◌, ◌==◌, List, [], ◌∷◌, ◌++◌, map, length, Option, Some, None, is_some, true, refl, sym, ap, ◌∙◌, subst, ⊎_elim, arith, Contains}
+use Rattle.std.proofs.Common.{◌≡◌, ◌≢◌, ℕ, ◌<◌, List, [], ◌∷◌, ◌++◌, map, Option, Some, None, is_some, true, refl, sym, ap, ◌∙◌, subst, ⊎_elim, arith, Contains}
 use Rattle.std.proofs.lemmas.Bool.{cases_eq}
-use Rattle.std.specs.Prelude.{slice_get}
 use Rattle.std.specs.Option.{option_map}
-use Rattle.slab.specs.Slab.{Slab, get, ContainsKey, slab_len}
+use Rattle.slab.specs.Slab.{Slab, get}
 use Rattle.slab.proofs.SlabLemmas.{Contains-cons_cases}
 use Rattle.msg_pool.specs.declared.message.MsgId.{MsgId}
-use Rattle.msg_pool.specs.declared.slot.Grouping.TheVariants.{Every, Issuer, Target}
+use Rattle.msg_pool.specs.declared.slot.Grouping.TheVariants.{Every}
 use Rattle.msg_pool.specs.declared.slot.Link.{Link}
 use Rattle.msg_pool.specs.declared.slot.Slot.{Slot}
 use Rattle.msg_pool.specs.declared.chain.Chain.{Chain}
 use Rattle.msg_pool.specs.Pool.{Pool, Pending, ids}
-use Rattle.msg_pool.specs.Chains.{Links, first_or, last_or, neighbours, IsLinked, IsChain, IsFresh, AreDistinct, forward, members}
-use Rattle.msg_pool.specs.Slots.{link_of, link_at, group_at, slot_at, pending_at, Holds}
-use Rattle.msg_pool.specs.Sound.{Parts, keys_of, pool_of, EachKey, AreSound, IsPool}
+use Rattle.msg_pool.specs.Chains.{Links, first_or, last_or, IsLinked, IsChain, IsFresh, AreDistinct, forward, members}
+use Rattle.msg_pool.specs.Slots.{link_at, slot_at, pending_at, Holds}
+use Rattle.msg_pool.specs.Sound.{Parts, keys_of, EachKey, AreSound, IsPool}
 use Rattle.msg_pool.proofs.Segments.{forward_is, IsFresh-left, IsFresh-right, IsFresh-append, fresh_before, AreDistinct-right}
 
 -- all messages are one group

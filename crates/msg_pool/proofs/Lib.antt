@@ -9,3 +9,4 @@ pub mod Putting
 pub mod Taking
 pub mod Shown
 pub mod Steps
+pub mod Walks

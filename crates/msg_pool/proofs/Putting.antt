@@ -1,19 +1,18 @@
 -- A message is put: it is linked behind the last one of each of its lists.
-use Rattle.std.proofs.Common.{◌≡◌, ◌≢◌, ℕ, ◌+◌, ◌-◌, ◌<◌, ◌≤◌, List, [], ◌∷◌, ◌++◌, map, length, Option, Some, None, is_some, true, refl, sym, ap, ◌∙◌, subst, arith, length-append}
+use Rattle.std.proofs.Common.{◌≡◌, ◌≢◌, ℕ, ◌+◌, ◌<◌, ◌≤◌, List, [], ◌∷◌, ◌++◌, map, length, Option, Some, None, is_some, sym, ap, ◌∙◌, subst, arith, length-append}
 use Rattle.std.proofs.lemmas.List.{length-set}
 use Rattle.std.proofs.lemmas.List.{map-append}
 use Rattle.std.specs.Prelude.{slice_set, unwrap_or}
 use Rattle.std.specs.Option.{option_map}
-use Rattle.slab.specs.Slab.{Slab, get, ContainsKey, slab_len, Updates}
-use Rattle.msg_pool.specs.declared.message.MsgId.{MsgId}
+use Rattle.slab.specs.Slab.{Slab, get, slab_len, Updates}
 use Rattle.msg_pool.specs.declared.slot.Grouping.{Grouping}
 use Rattle.msg_pool.specs.declared.slot.Grouping.TheVariants.{Every, Issuer, Target}
 use Rattle.msg_pool.specs.declared.slot.Slot.{Slot}
 use Rattle.msg_pool.specs.declared.chain.Chain.{Chain}
-use Rattle.msg_pool.specs.Pool.{Pool, Pending, target_of, with_message}
+use Rattle.msg_pool.specs.Pool.{Pending, target_of, with_message}
 use Rattle.msg_pool.specs.Chains.{neighbours, IsFresh, AreDistinct, chain_with, chain_at, AreChains}
 use Rattle.msg_pool.specs.Slots.{link_of, with_next, group_of, changed, slot_at, link_at, group_at, pending_at, no_slot, Holds}
-use Rattle.msg_pool.specs.Sound.{Parts, keys_of, pool_of, EachKey, AreSound, IsPool}
+use Rattle.msg_pool.specs.Sound.{Parts, keys_of, pool_of, AreSound, IsPool}
 use Rattle.msg_pool.proofs.Segments.{updated, to_next, Agree, IsFresh-left, IsFresh-right, AreDistinct-with}
 use Rattle.msg_pool.proofs.Families.{SameGroups, Agree-all, Agree-fresh, SameGroups-all, SameGroups-fresh, AreChains-agree, AreChains-with}
 use Rattle.msg_pool.proofs.Slabs.{link_at-next, slab_len-changed, capacity-changed}

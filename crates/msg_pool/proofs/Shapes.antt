@@ -1,5 +1,5 @@
 -- What the links of a slab are after a message is linked or taken out, for each of the three lists.
-use Rattle.std.proofs.Common.{◌≡◌, ◌≢◌, ℕ, cond, ◌==◌, Option, Some, None, is_some, refl, sym, ap, ◌∙◌}
+use Rattle.std.proofs.Common.{◌≡◌, ℕ, cond, ◌==◌, Option, Some, None, is_some, refl, ap, ◌∙◌}
 use Rattle.std.specs.Prelude.{unwrap_or}
 use Rattle.std.specs.Option.{option_map}
 use Rattle.slab.specs.Slab.{Slab, get, slab_len}
@@ -9,7 +9,7 @@ use Rattle.msg_pool.specs.declared.slot.Link.{Link}
 use Rattle.msg_pool.specs.declared.slot.Slot.{Slot}
 use Rattle.msg_pool.specs.Chains.{Links}
 use Rattle.msg_pool.specs.Pool.{Pending}
-use Rattle.msg_pool.specs.Slots.{link_of, with_next, with_previous, group_of, changed, slot_at, link_at, group_at, pending_at, no_slot}
+use Rattle.msg_pool.specs.Slots.{link_of, with_next, with_previous, changed, link_at, pending_at, no_slot}
 use Rattle.msg_pool.proofs.Segments.{updated, to_next, to_previous, bypassed}
 use Rattle.msg_pool.proofs.Slabs.{kept, link_at-next, link_at-previous, slab_len-changed, capacity-changed}
 

@@ -4,16 +4,15 @@ use Rattle.std.proofs.lemmas.List.{length-map}
 use Rattle.std.specs.Prelude.{slice_get}
 use Rattle.std.specs.List.{filter}
 use Rattle.std.specs.Option.{option_map}
-use Rattle.slab.specs.Slab.{Slab, get, ContainsKey}
-use Rattle.msg_pool.specs.declared.message.MsgId.{MsgId}
+use Rattle.slab.specs.Slab.{Slab, get}
 use Rattle.msg_pool.specs.declared.slot.Grouping.{Grouping}
 use Rattle.msg_pool.specs.declared.slot.Grouping.TheVariants.{Every, Issuer, Target}
 use Rattle.msg_pool.specs.declared.slot.Slot.{Slot}
 use Rattle.msg_pool.specs.declared.chain.Chain.{Chain}
-use Rattle.msg_pool.specs.Pool.{Pending, ids, of_issuer, to_target}
-use Rattle.msg_pool.specs.Chains.{Links, IsLinked, IsChain, chain_at, forward, members, AreChains}
+use Rattle.msg_pool.specs.Pool.{ids, of_issuer, to_target}
+use Rattle.msg_pool.specs.Chains.{Links, IsLinked, IsChain, chain_at, forward, members}
 use Rattle.msg_pool.specs.Slots.{link_of, group_of, link_at, group_at, pending_at}
-use Rattle.msg_pool.specs.Sound.{Parts, keys_of, pool_of, AreSound, IsPool}
+use Rattle.msg_pool.specs.Sound.{Parts, keys_of, pool_of, IsPool}
 use Rattle.msg_pool.proofs.Keys.{every_chain, chain_walk, some_linked}
 
 map-cond : (slots : Slab Slot) (key : ℕ) (keys : List ℕ) (t : Bool) → cond t (pending_at slots key ∷ map (pending_at slots) keys) (map (pending_at slots) keys) ≡ map (pending_at slots) (cond t (key ∷ keys) keys)

@@ -1,19 +1,16 @@
 -- The slab after the message of one key is changed.
-use Rattle.std.proofs.Common.{◌≡◌, ◌≢◌, ◌⊎◌, ℕ, zero, suc, ◌+◌, ◌<◌, ◌≤◌, Bool, true, false, cond, ◌==◌, List, [], ◌∷◌, length, count_by, get_or, Option, Some, None, is_some, refl, sym, ap, ◌∙◌, subst, ⊎_elim, arith}
+use Rattle.std.proofs.Common.{◌≡◌, ◌≢◌, ℕ, cond, List, length, count_by, get_or, Option, Some, None, is_some, refl, sym, ap, ◌∙◌, subst, ⊎_elim, arith}
 use Rattle.std.proofs.lemmas.Bool.{cases_eq, cases_lt}
 use Rattle.std.proofs.lemmas.List.{get_or-set_same, get_or-set_other, get_or_past, set_past}
 use Rattle.std.proofs.lemmas.List.Sums.{sum_by-set}
-use Rattle.std.specs.Prelude.{slice_set, unwrap_or}
 use Rattle.std.specs.Option.{option_map}
-use Rattle.slab.specs.Slab.{Slab, get, ContainsKey, slab_len}
+use Rattle.slab.specs.Slab.{Slab, get, slab_len}
 use Rattle.msg_pool.specs.declared.slot.Grouping.{Grouping}
 use Rattle.msg_pool.specs.declared.slot.Grouping.TheVariants.{Every, Issuer, Target}
 use Rattle.msg_pool.specs.declared.slot.Link.{Link}
 use Rattle.msg_pool.specs.declared.slot.Slot.{Slot}
-use Rattle.msg_pool.specs.Chains.{Links}
-use Rattle.msg_pool.specs.Pool.{Pending}
-use Rattle.msg_pool.specs.Slots.{link_of, with_next, with_previous, group_of, changed, slot_at, link_at, group_at, pending_at, no_slot}
-use Rattle.msg_pool.proofs.Segments.{updated, to_next, to_previous, updated_at, updated_off, bypassed}
+use Rattle.msg_pool.specs.Slots.{link_of, with_next, with_previous, changed, link_at}
+use Rattle.msg_pool.proofs.Segments.{updated, to_next, to_previous, updated_at, updated_off}
 
 get-changed_same : (change : Slot → Slot) (at : ℕ) (slots : Slab Slot) → get (changed change (Some at) slots) at ≡ option_map change (get slots at)
 get-changed_same change at slots =

@@ -1,5 +1,5 @@
 -- The steps of a put and of a take as the code takes them.
-use Rattle.std.proofs.Common.{◌≡◌, ℕ, ◌+◌, List, Option, Some, None, sym, ap, ◌∙◌, subst}
+use Rattle.std.proofs.Common.{◌≡◌, ℕ, ◌+◌, Some, None, sym, ap, ◌∙◌, subst}
 use Rattle.std.specs.Prelude.{slice_set}
 use Rattle.slab.specs.Slab.{Slab, get, slab_len, Updates}
 use Rattle.msg_pool.specs.declared.message.MsgId.{MsgId}

@@ -1,11 +1,11 @@
 -- A message is taken out: its neighbours on each of its lists are linked with each other.
-use Rattle.std.proofs.Common.{◌≡◌, ◌≢◌, ◌⊎◌, ℕ, ◌+◌, ◌-◌, ◌<◌, ◌≤◌, List, [], ◌∷◌, ◌++◌, map, length, Option, Some, None, is_some, true, false, refl, sym, ap, ◌∙◌, subst, ⊎_elim, arith, length-append, Contains}
+use Rattle.std.proofs.Common.{◌≡◌, ◌≢◌, ℕ, ◌+◌, ◌<◌, List, [], ◌∷◌, ◌++◌, map, length, Option, Some, None, is_some, true, false, refl, sym, ap, ◌∙◌, subst, ⊎_elim, arith, length-append, Contains}
 use Rattle.std.proofs.lemmas.Bool.{cases_eq}
 use Rattle.std.proofs.lemmas.List.{length-set, map-append}
 use Rattle.std.proofs.lemmas.List.Elements.{Contains-append_right}
 use Rattle.std.specs.Prelude.{slice_set, unwrap_or}
 use Rattle.std.specs.Option.{option_map}
-use Rattle.slab.specs.Slab.{Slab, get, ContainsKey, slab_len, Updates}
+use Rattle.slab.specs.Slab.{Slab, get, slab_len, Updates}
 use Rattle.msg_pool.specs.declared.message.Message.{Message}
 use Rattle.msg_pool.specs.declared.message.MsgId.{MsgId}
 use Rattle.msg_pool.specs.declared.slot.Grouping.{Grouping}
@@ -14,11 +14,11 @@ use Rattle.msg_pool.specs.declared.slot.Link.{Link}
 use Rattle.msg_pool.specs.declared.slot.Slot.{Slot}
 use Rattle.msg_pool.specs.declared.chain.Chain.{Chain}
 use Rattle.msg_pool.specs.Pool.{Pool, Pending, target_of, Takes, ids}
-use Rattle.msg_pool.specs.Chains.{Links, IsLinked, neighbours, IsFresh, AreDistinct, chain_without, chain_at, AreChains}
+use Rattle.msg_pool.specs.Chains.{Links, IsLinked, IsFresh, AreDistinct, chain_without, chain_at, AreChains}
 use Rattle.msg_pool.specs.Slots.{link_of, group_of, slot_at, link_at, group_at, pending_at, no_slot, Holds}
-use Rattle.msg_pool.specs.Sound.{Parts, keys_of, pool_of, EachKey, AreSound, IsPool}
-use Rattle.msg_pool.proofs.Segments.{bypassed, Agree, AreDistinct-without, IsFresh-right, IsLinked-right}
-use Rattle.msg_pool.proofs.Families.{SameGroups, Agree-fresh, SameGroups-fresh, AreChains-agree, AreChains-without, group_within}
+use Rattle.msg_pool.specs.Sound.{Parts, keys_of, pool_of, AreSound, IsPool}
+use Rattle.msg_pool.proofs.Segments.{bypassed, AreDistinct-without, IsLinked-right}
+use Rattle.msg_pool.proofs.Families.{Agree-fresh, SameGroups-fresh, AreChains-agree, AreChains-without, group_within}
 use Rattle.msg_pool.proofs.Putting.{same_parts}
 use Rattle.msg_pool.proofs.Ready.{holds_same, neighbours_hold, count_some}
 use Rattle.msg_pool.proofs.Shapes.{bypass, link_at-bypass, other-bypass, pending_at-bypass, present-bypass, slab_len-bypass, capacity-bypass, bypassed-same, entry}

@@ -6,7 +6,7 @@ use Rattle.msg_pool.specs.declared.slot.Slot.{Slot}
 use Rattle.msg_pool.specs.declared.chain.Chain.{Chain}
 use Rattle.msg_pool.specs.Chains.{forward, AreChains, AreDistinct, IsFresh}
 use Rattle.msg_pool.specs.Slots.{link_at, group_at, slot_at, pending_at}
-use Rattle.msg_pool.specs.Pool.{Pool, Pending}
+use Rattle.msg_pool.specs.Pool.{Pool}
 
 -- What a pool is made of.
 pub record Parts : Type 0 where

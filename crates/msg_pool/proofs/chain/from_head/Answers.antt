@@ -1,6 +1,4 @@
 use Rattle.msg_pool.proofs.WalkSteps.{step_forward}
-use Rattle.msg_pool.proofs.Families.{AreChains-with}
-use Rattle.msg_pool.proofs.Slabs.{kept}
 use Rattle.msg_pool.proofs.chain.from_head.Goals as goal
 
 pub loop-preserved : goal.loop-preserved

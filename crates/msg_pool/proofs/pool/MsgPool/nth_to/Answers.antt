@@ -1,8 +1,7 @@
-use Rattle.std.proofs.Common.{◌≡◌, Some, sym, ap, ◌∙◌}
+use Rattle.std.proofs.Common.{Some, ap, ◌∙◌}
 use Rattle.std.specs.Option.{option_map}
 use Rattle.msg_pool.specs.declared.slot.Grouping.TheVariants.{Target}
 use Rattle.msg_pool.specs.Inner.{parts_of}
-use Rattle.msg_pool.specs.Chains.{chain_at}
 use Rattle.msg_pool.specs.Slots.{pending_at}
 use Rattle.msg_pool.proofs.Shown.{read_target_walked, read_target_nth, present_at}
 use Rattle.msg_pool.proofs.pool.MsgPool.nth_to.Goals as goal

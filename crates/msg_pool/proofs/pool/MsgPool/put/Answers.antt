@@ -4,11 +4,11 @@ use Rattle.msg_pool.specs.declared.slot.Slot.{Slot}
 use Rattle.msg_pool.specs.declared.chain.Chain.{Chain}
 use Rattle.msg_pool.specs.Inner.{parts_of}
 use Rattle.msg_pool.specs.Chains.{chain_at, neighbours}
-use Rattle.msg_pool.specs.Pool.{Pool, target_of}
+use Rattle.msg_pool.specs.Pool.{target_of}
 use Rattle.msg_pool.specs.Sound.{Parts, keys_of}
 use Rattle.msg_pool.proofs.Keys.{serial_below}
 use Rattle.msg_pool.proofs.Putting.{IsInserted, every_ready, issuer_ready, target_ready, every_few, issuer_few, target_few}
-use Rattle.msg_pool.proofs.Steps.{AreRead, put_steps}
+use Rattle.msg_pool.proofs.Steps.{put_steps}
 use Rattle.msg_pool.proofs.pool.MsgPool.put.Goals as goal
 
 pub appended-every-requires-clause-tail : goal.appended-every-requires-clause-tail

@@ -1,11 +1,10 @@
-use Rattle.std.proofs.Common.{◌≡◌, ◌<◌, true, refl, arith}
+use Rattle.std.proofs.Common.{◌≡◌, refl, arith}
 use Rattle.msg_pool.specs.declared.slot.Slot.{Slot}
 use Rattle.msg_pool.specs.Inner.{parts_of}
 use Rattle.msg_pool.specs.Chains.{chain_at}
-use Rattle.msg_pool.specs.Pool.{target_of}
 use Rattle.msg_pool.specs.Sound.{Parts, pool_of}
 use Rattle.msg_pool.proofs.Taking.{every_neighbours, issuer_neighbours, target_neighbours, issuer_counts, target_counts, still_there, takes_pending, not_pending, none_is_full}
-use Rattle.msg_pool.proofs.Steps.{AreRead, AreTakeSteps, take_steps}
+use Rattle.msg_pool.proofs.Steps.{take_steps}
 use Rattle.msg_pool.proofs.pool.MsgPool.take.Goals as goal
 
 pub returns-in_err-slot-clause-found : goal.returns-in_err-slot-clause-found
