@@ -7,8 +7,9 @@ use Rattle.sc_tree.specs.PlainTypedTree.{PlainTypedFunction, PlainTypedTree}
 use Rattle.sc_typing.specs.declared.file.Definition.{Definition}
 use Rattle.sc_typing.specs.declared.notes.Breach.{Breach}
 use Rattle.sc_typing.specs.Source.{Source}
+use Rattle.sc_typing.specs.Numbers.{rule_number}
 use Rattle.sc_typing.specs.Program.{definitions_of, source_of_tree, typed_function, typed_of, name_text, line_of}
-use Rattle.sc_typing.specs.ProgramNotes.{note_file, noted}
+use Rattle.sc_typing.proofs.ProgramNotes.{note_file, noted}
 use Rattle.sc_typing.specs.Answer.{first_noted, IsFirstBroken, IsWellTyped}
 use Rattle.sc_typing.proofs.Noted.{first_is_least, none_is_well_typed}
 
@@ -38,7 +39,7 @@ module _ (tree : PlainTree) (names texts : List Text) where
   notes_are s e n = n ∙ (λ i. note_file (s i) tree (e i))
 
   pub first_answered : {broken : List Breach} {b : Breach} → broken ≡ noted tree names texts →
-      Some b ≡ first_noted broken → IsFirstBroken tree names texts b.rule (line_of tree b.at)
+      Some b ≡ first_noted broken → IsFirstBroken tree names texts (rule_number b.rule) (line_of tree b.at)
   first_answered n f = first_is_least tree names texts (sym (f ∙ ap first_noted n))
 
   pub none_answered : {broken : List Breach} → broken ≡ noted tree names texts → None ≡ first_noted broken →

@@ -1,5 +1,1 @@
-pub mod ViewCalls
-pub mod ViewChains
-pub mod ViewSight
 pub mod ViewStatements
-pub mod ViewTails

@@ -10,10 +10,10 @@ use crate::functions::{definitions_of, file_of};
 use sc_base::copy_of_shapes;
 use sc_layout::Layout;
 use sc_tree::{Lexed, Tree, Typed, TypedFunction};
-use sc_typing::CheckError;
 use sc_typing::answer::{first_noted, line_of, texts_of};
 use sc_typing::file::{Definition, File};
 use sc_typing::notes::Notes;
+use sc_typing::{CheckError, Rule};
 use sqlite_items::Items;
 use std::alloc::{AllocError, Global};
 
@@ -66,7 +66,7 @@ pub fn check(
     let functions = file_of(alloc, &file, &mut notes, tree)?;
     if let Some(first) = first_noted(notes.as_slice()) {
         return Err(CheckError::Rule {
-            number: first.rule,
+            number: first.rule.number(),
             line: line_of(tree, first.at),
         });
     }

@@ -7,16 +7,17 @@ ghost use Rattle.sc_tree.specs.ViewStmt.{declared};
 ghost use Rattle.sc_tree.specs.ViewTyped.{plain_typed};
 ghost use Rattle.sc_tree.specs.ViewTypedStmt.{typed_declared};
 ghost use Rattle.sc_typing.specs.Notes.{Noted};
-ghost use Rattle.sc_typing.specs.Rules as rules;
-ghost use Rattle.sc_typing.specs.StatementNotes as notes_of;
+ghost use Rattle.sc_typing.specs.NameRules as name_rules;
+ghost use Rattle.sc_typing.proofs.StatementNotes as notes_of;
 ghost use Rattle.sc_typing.specs.Statements as typed;
 ghost use Rattle.sc_typing.specs.ViewSource.{source_of};
 
-use crate::noting::note_one;
 use crate::statements::Body;
-use crate::values::{met, unboxed};
+use crate::values::unboxed;
 use sc_base::{Ty, copy_of_type};
+use sc_operators::noting::note_one;
 use sc_tree::{Expr, Local, TypedExpr, TypedLocal};
+use sc_typing::Rule;
 use sc_typing::file::File;
 use sc_typing::notes::Notes;
 use sc_typing::rules::fit;
@@ -26,7 +27,7 @@ use std::alloc::AllocError;
 
 /// Whether the library leaves the name free.
 pub fn is_free(file: &File<'_>, name: u32) -> bool
-    ensures { result ≡ rules.rule_3 (source_of file.now) name }
+    ensures { result ≡ name_rules.not_of_library (source_of file.now) name }
 {
     match file.library(name) {
         None => true,
@@ -35,7 +36,7 @@ pub fn is_free(file: &File<'_>, name: u32) -> bool
 }
 
 /// The rules on the name that is declared at the token, in a block that began where so many locals were in scope.
-#[tactic(auto, unfolding(sc_typing::specs::StatementNotes::note_declared))]
+#[tactic(auto, unfolding(sc_typing::proofs::StatementNotes::note_declared))]
 pub fn note_declared(
     file: &File<'_>,
     scope: &Scope,
@@ -47,8 +48,8 @@ pub fn note_declared(
     ensures { IfOk result (λ _. notes.new
         ≡ notes_of.note_declared (source_of file.now) from name at scope.now notes.old) }
 {
-    notes.demand(!scope.declared_since(from, name), at, 1)?;
-    notes.demand(is_free(file, name), at, 3)?;
+    notes.demand(!scope.declared_since(from, name), at, Rule::DeclaredOnce)?;
+    notes.demand(is_free(file, name), at, Rule::LibraryName)?;
     Ok(())
 }
 
@@ -70,48 +71,48 @@ impl Body<'_> {
         notes: &mut Notes,
         ty: &Ty,
         at: u32,
-        e: &Option<Expr>,
+        expression: &Option<Expr>,
     ) -> Result<Option<Boxed<TypedExpr>>, AllocError>
         ensures { Noted (option_map plain_typed) result
-            (typed.typed_initial (source_of self.now.file) scope.now ty.now (option_map plain e.now)) notes.new
-            (notes_of.note_initial (source_of self.now.file) scope.now ty.now at (option_map plain e.now) notes.old) }
+            (typed.typed_initial (source_of self.now.file) scope.now ty.now (option_map plain expression.now)) notes.new
+            (notes_of.note_initial (source_of self.now.file) scope.now ty.now at (option_map plain expression.now) notes.old) }
     {
-        let Some(e) = e else {
+        let Some(expression) = expression else {
             return Ok(None);
         };
-        let judged = self.judge(scope, notes, e)?;
+        let judged = self.judge(scope, notes, expression)?;
         note_one(
             notes,
             &judged,
             fit(&judged.known, ty),
             token_behind(at)?,
-            15,
+            Rule::Assignment,
         )?;
-        let made = met(self.alloc, judged, ty)?;
+        let made = judged.met(self.alloc, ty)?;
         Ok(Some(made))
     }
 
     /// The local, which its own initial value does not see.
-    #[tactic(auto, unfolding(sc_typing::specs::Statements::typed_local, sc_typing::specs::StatementNotes::note_local))]
+    #[tactic(auto, unfolding(sc_typing::specs::Statements::typed_local, sc_typing::proofs::StatementNotes::note_local))]
     fn local(
         &self,
         scope: &Scope,
         notes: &mut Notes,
         from: usize,
-        l: &Local,
+        local: &Local,
     ) -> Result<TypedLocal, AllocError>
-        ensures { Noted typed_declared result (typed.typed_local (source_of self.now.file) scope.now (declared l.now))
-            notes.new (notes_of.note_local (source_of self.now.file) from scope.now (declared l.now) notes.old) }
+        ensures { Noted typed_declared result (typed.typed_local (source_of self.now.file) scope.now (declared local.now))
+            notes.new (notes_of.note_local (source_of self.now.file) from scope.now (declared local.now) notes.old) }
     {
-        let init = self.initial(scope, notes, &l.ty, l.at, &l.init)?;
-        note_declared(&self.file, scope, notes, from, l.name, l.at)?;
-        let ty = copy_of_type(self.alloc, &l.ty)?;
+        let init = self.initial(scope, notes, &local.ty, local.at, &local.init)?;
+        note_declared(&self.file, scope, notes, from, local.name, local.at)?;
+        let ty = copy_of_type(self.alloc, &local.ty)?;
         Ok(TypedLocal {
-            name: l.name,
+            name: local.name,
             ty,
             init: unboxed(init),
-            at: l.at,
-            line: l.line,
+            at: local.at,
+            line: local.line,
         })
     }
 
@@ -121,19 +122,19 @@ impl Body<'_> {
         scope: &mut Scope,
         notes: &mut Notes,
         from: usize,
-        l: &Local,
+        it: &Local,
         all: &mut Vec<TypedLocal>,
     ) -> Result<(), AllocError>
         ensures typed { IfOk result (λ _. map typed_declared all.new.items
             ≡ map typed_declared all.old.items ++ typed.typed_local (source_of self.now.file) scope.old
-            (declared l.now) ∷ []) }
-        ensures scope { IfOk result (λ _. scope.new ≡ typed.after_declared scope.old (declared l.now)) }
+            (declared it.now) ∷ []) }
+        ensures scope { IfOk result (λ _. scope.new ≡ typed.after_declared scope.old (declared it.now)) }
         ensures notes { IfOk result (λ _. notes.new
-            ≡ notes_of.note_local (source_of self.now.file) from scope.old (declared l.now) notes.old) }
+            ≡ notes_of.note_local (source_of self.now.file) from scope.old (declared it.now) notes.old) }
     {
-        let local = self.local(scope, notes, from, l)?;
+        let local = self.local(scope, notes, from, it)?;
         all.push(local)?;
-        scope.declare(self.alloc, Some(l.name), &l.ty)?;
+        scope.declare(self.alloc, Some(it.name), &it.ty)?;
         Ok(())
     }
 

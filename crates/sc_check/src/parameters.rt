@@ -2,13 +2,14 @@
 
 ghost use Rattle.std.specs.Prelude.{◌≡◌, map, IfOk};
 ghost use Rattle.sc_typing.specs.Program as program;
-ghost use Rattle.sc_typing.specs.ProgramNotes as notes_of;
+ghost use Rattle.sc_typing.proofs.ProgramNotes as notes_of;
 ghost use Rattle.sc_typing.specs.Scope.{nothing_in_scope};
 ghost use Rattle.sc_typing.specs.ViewSource.{source_of};
 
 use crate::declarations::{note_declared, token_behind};
 use sc_base::{Star, Ty, copy_of_type};
 use sc_tree::{Param, TypedParam};
+use sc_typing::Rule;
 use sc_typing::file::File;
 use sc_typing::notes::Notes;
 use sc_typing::scope::Scope;
@@ -33,43 +34,52 @@ fn star_tokens(stars: &[Star]) -> Result<u32, AllocError>
 }
 
 /// The token of the parameter's name.
-fn name_token(p: &Param) -> Result<u32, AllocError>
-    ensures { IfOk result (λ at. at ≡ program.name_token p.now) }
+fn name_token(parameter: &Param) -> Result<u32, AllocError>
+    ensures { IfOk result (λ at. at ≡ program.name_token parameter.now) }
 {
-    let stars = star_tokens(p.ty.stars.as_slice())?;
-    let Some(last) = p.at.checked_add(stars) else {
+    let stars = star_tokens(parameter.ty.stars.as_slice())?;
+    let Some(last) = parameter.at.checked_add(stars) else {
         return Err(AllocError);
     };
     let token = token_behind(last)?;
     Ok(token)
 }
 
-fn note_name(file: &File<'_>, scope: &Scope, notes: &mut Notes, p: &Param) -> Result<(), AllocError>
+fn note_name(
+    file: &File<'_>,
+    scope: &Scope,
+    notes: &mut Notes,
+    parameter: &Param,
+) -> Result<(), AllocError>
     ensures { IfOk result (λ _. notes.new
-        ≡ notes_of.note_parameter_name (source_of file.now) p.now scope.now p.now.name notes.old) }
+        ≡ notes_of.note_parameter_name (source_of file.now) parameter.now scope.now parameter.now.name notes.old) }
 {
-    let Some(name) = p.name else {
+    let Some(name) = parameter.name else {
         return Ok(());
     };
-    let at = name_token(p)?;
+    let at = name_token(parameter)?;
     note_declared(file, scope, notes, 0, name, at)?;
     Ok(())
 }
 
 /// The rules on a parameter, of a definition or of a prototype.
-#[tactic(auto, unfolding(sc_typing::specs::ProgramNotes::note_parameter))]
+#[tactic(auto, unfolding(sc_typing::proofs::ProgramNotes::note_parameter))]
 fn note_parameter(
     file: &File<'_>,
     scope: &Scope,
     notes: &mut Notes,
     defined: bool,
-    p: &Param,
+    parameter: &Param,
 ) -> Result<(), AllocError>
     ensures { IfOk result (λ _. notes.new
-        ≡ notes_of.note_parameter (source_of file.now) defined scope.now p.now notes.old) }
+        ≡ notes_of.note_parameter (source_of file.now) defined scope.now parameter.now notes.old) }
 {
-    notes.demand(!defined || p.name.is_some(), p.at, 5)?;
-    note_name(file, scope, notes, p)?;
+    notes.demand(
+        !defined || parameter.name.is_some(),
+        parameter.at,
+        Rule::Prototype,
+    )?;
+    note_name(file, scope, notes, parameter)?;
     Ok(())
 }
 
@@ -81,14 +91,14 @@ fn add_parameter(
     scope: &mut Scope,
     notes: &mut Notes,
     defined: bool,
-    p: &Param,
+    parameter: &Param,
 ) -> Result<(), AllocError>
-    ensures scope { IfOk result (λ _. scope.new ≡ program.after_parameter scope.old p.now) }
+    ensures scope { IfOk result (λ _. scope.new ≡ program.after_parameter scope.old parameter.now) }
     ensures notes { IfOk result (λ _. notes.new
-        ≡ notes_of.note_parameter (source_of file.now) defined scope.old p.now notes.old) }
+        ≡ notes_of.note_parameter (source_of file.now) defined scope.old parameter.now notes.old) }
 {
-    note_parameter(file, scope, notes, defined, p)?;
-    scope.declare(alloc, p.name, &p.ty)?;
+    note_parameter(file, scope, notes, defined, parameter)?;
+    scope.declare(alloc, parameter.name, &parameter.ty)?;
     Ok(())
 }
 
@@ -111,17 +121,18 @@ pub fn scope_of(
     Ok(scope)
 }
 
-fn typed_param(alloc: Global, p: &Param) -> Result<TypedParam, AllocError>
-    ensures { IfOk result (λ made. made ≡ program.typed_param p.now) }
+fn typed_param(alloc: Global, parameter: &Param) -> Result<TypedParam, AllocError>
+    ensures { IfOk result (λ made. made ≡ program.typed_param parameter.now) }
 {
-    let ty = copy_of_type(alloc, &p.ty)?;
+    let ty = copy_of_type(alloc, &parameter.ty)?;
     Ok(TypedParam {
-        name: p.name,
+        name: parameter.name,
         ty,
-        at: p.at,
+        at: parameter.at,
     })
 }
 
+/// The parameters as parts of the typed tree. The error is want of memory.
 pub fn typed_params(alloc: Global, params: &[Param]) -> Result<Vec<TypedParam>, AllocError>
     ensures { IfOk result (λ made. made.items ≡ map program.typed_param params.now) }
 {
@@ -132,6 +143,7 @@ pub fn typed_params(alloc: Global, params: &[Param]) -> Result<Vec<TypedParam>, 
     Ok(made)
 }
 
+/// The types of the parameters, in their order. The error is want of memory.
 pub fn types_of(alloc: Global, params: &[Param]) -> Result<Vec<Ty>, AllocError>
     ensures { IfOk result (λ made. made.items ≡ program.types_of params.now) }
 {

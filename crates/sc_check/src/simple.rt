@@ -11,26 +11,27 @@ ghost use Rattle.sc_tree.specs.ViewTypedStmt.{plain_typed_stmt};
 ghost use Rattle.sc_typing.specs.Notes.{Noted, unless};
 ghost use Rattle.sc_typing.specs.Rules as rules;
 ghost use Rattle.sc_typing.specs.Scope.{innermost};
-ghost use Rattle.sc_typing.specs.StatementNotes as notes_of;
+ghost use Rattle.sc_typing.proofs.StatementNotes as notes_of;
 ghost use Rattle.sc_typing.specs.Statements as typed;
 ghost use Rattle.sc_typing.specs.ViewKnown.{seen_judged};
 ghost use Rattle.sc_typing.specs.ViewSource.{source_of};
 ghost use Rattle.sc_check.specs.ViewStatements.{within_of};
 
-use crate::names::named;
-use crate::noting::{note_one, note_two};
 use crate::statements::Body;
-use crate::values::{met, sent, unboxed};
+use crate::values::{sent, unboxed};
+use sc_judge::names::named;
+use sc_operators::noting::{note_one, note_two};
 use sc_tree::{Expr, Local, Named, TypedExpr, TypedStmt};
+use sc_typing::Rule;
 use sc_typing::known::{Judged, Spot};
 use sc_typing::notes::Notes;
-use sc_typing::rules::{fit, rule_17, rule_18, rule_20, rule_24_name};
+use sc_typing::rules::{fit, return_kept, split_assignment_kept, store_kept, turns_kept};
 use sc_typing::scope::{InScope, Scope};
 use sqlite_items::{Boxed, Items};
 use std::alloc::{AllocError, Global};
 
 /// The rule on the sides of a split-phase assignment.
-#[tactic(auto, unfolding(sc_typing::specs::StatementNotes::note_split))]
+#[tactic(auto, unfolding(sc_typing::proofs::StatementNotes::note_split))]
 fn note_split(
     notes: &mut Notes,
     oneway: bool,
@@ -42,9 +43,16 @@ fn note_split(
         ≡ notes_of.note_split oneway (seen_judged left.now) (seen_judged right.now) at notes.old) }
 {
     if oneway {
-        note_two(notes, left, right, rule_18(left, right), at, 18)?;
+        note_two(notes, left, right, store_kept(left, right), at, Rule::Store)?;
     } else {
-        note_two(notes, left, right, rule_17(left, right), at, 17)?;
+        note_two(
+            notes,
+            left,
+            right,
+            split_assignment_kept(left, right),
+            at,
+            Rule::SplitAssignment,
+        )?;
     }
     Ok(())
 }
@@ -116,14 +124,14 @@ impl Body<'_> {
         &self,
         scope: &Scope,
         notes: &mut Notes,
-        e: &Expr,
+        expression: &Expr,
     ) -> Result<Boxed<TypedStmt>, AllocError>
         ensures { Noted plain_typed_stmt result
-            (typed.typed_statement (within_of self.now) scope.now (form.simple (plain e.now))) notes.new
-            (notes_of.note_statement (within_of self.now) false 0 scope.now (form.simple (plain e.now)) notes.old) }
+            (typed.typed_statement (within_of self.now) scope.now (form.simple (plain expression.now))) notes.new
+            (notes_of.note_statement (within_of self.now) false 0 scope.now (form.simple (plain expression.now)) notes.old) }
     {
-        let e = self.dropped(scope, notes, e)?;
-        let made = Boxed::new(self.alloc, TypedStmt::Simple(e.into_inner()))?;
+        let expression = self.dropped(scope, notes, expression)?;
+        let made = Boxed::new(self.alloc, TypedStmt::Simple(expression.into_inner()))?;
         Ok(made)
     }
 
@@ -152,27 +160,27 @@ impl Body<'_> {
     }
 
     /// The name of a `for_my_1d`.
-    #[tactic(auto, unfolding(sc_typing::specs::StatementNotes::note_turns))]
+    #[tactic(auto, unfolding(sc_typing::proofs::StatementNotes::note_turns))]
     pub fn turns(
         &self,
         scope: &Scope,
         notes: &mut Notes,
-        n: u32,
+        name: u32,
         at: u32,
         line: u32,
     ) -> Result<Named, AllocError>
-        ensures number { IfOk result (λ local. local ≡ typed.local_number (innermost n scope.now.locals)) }
+        ensures number { IfOk result (λ local. local ≡ typed.local_number (innermost name scope.now.locals)) }
         ensures notes { IfOk result (λ _. notes.new
-            ≡ notes_of.note_turns (source_of self.now.file) scope.now n at line notes.old) }
+            ≡ notes_of.note_turns (source_of self.now.file) scope.now name at line notes.old) }
     {
         let spot = Spot {
             start: at,
             at,
             line,
         };
-        let judged = named(self.alloc, &self.file, scope, notes, 0, n, spot)?;
-        notes.demand(rule_24_name(&judged), at, 24)?;
-        Ok(local_number(scope.local(n)))
+        let judged = named(self.alloc, &self.file, scope, notes, 0, name, spot)?;
+        notes.demand(turns_kept(&judged), at, Rule::Use)?;
+        Ok(local_number(scope.local(name)))
     }
 
     /// The result that a `return` at the token gives.
@@ -180,21 +188,21 @@ impl Body<'_> {
         &self,
         scope: &Scope,
         notes: &mut Notes,
-        e: &Option<Expr>,
+        expression: &Option<Expr>,
         at: u32,
     ) -> Result<Option<Boxed<TypedExpr>>, AllocError>
         ensures { Noted (option_map plain_typed) result
-            (typed.typed_result (within_of self.now) scope.now (option_map plain e.now)) notes.new
-            (notes_of.note_return (within_of self.now) scope.now (option_map plain e.now) at notes.old) }
+            (typed.typed_result (within_of self.now) scope.now (option_map plain expression.now)) notes.new
+            (notes_of.note_return (within_of self.now) scope.now (option_map plain expression.now) at notes.old) }
     {
-        let Some(e) = e else {
-            notes.demand(rule_20(self.result, &None), at, 20)?;
+        let Some(expression) = expression else {
+            notes.demand(return_kept(self.result, &None), at, Rule::Return)?;
             return Ok(None);
         };
-        let judged = self.judge(scope, notes, e)?;
+        let judged = self.judge(scope, notes, expression)?;
         let kept = !self.result.void && fit(&judged.known, self.result);
-        note_one(notes, &judged, kept, at, 20)?;
-        let made = met(self.alloc, judged, self.result)?;
+        note_one(notes, &judged, kept, at, Rule::Return)?;
+        let made = judged.met(self.alloc, self.result)?;
         Ok(Some(made))
     }
 
@@ -204,16 +212,16 @@ impl Body<'_> {
         &self,
         scope: &Scope,
         notes: &mut Notes,
-        e: &Option<Expr>,
+        expression: &Option<Expr>,
         at: u32,
         line: u32,
     ) -> Result<Boxed<TypedStmt>, AllocError>
         ensures { Noted plain_typed_stmt result
-            (typed.typed_statement (within_of self.now) scope.now (form.return (option_map plain e.now) at line))
+            (typed.typed_statement (within_of self.now) scope.now (form.return (option_map plain expression.now) at line))
             notes.new (notes_of.note_statement (within_of self.now) false 0 scope.now
-            (form.return (option_map plain e.now) at line) notes.old) }
+            (form.return (option_map plain expression.now) at line) notes.old) }
     {
-        let value = self.result(scope, notes, e, at)?;
+        let value = self.result(scope, notes, expression, at)?;
         let value = unboxed(value);
         let made = Boxed::new(self.alloc, TypedStmt::Return { value, at, line })?;
         Ok(made)
@@ -228,9 +236,9 @@ impl Body<'_> {
         at: u32,
     ) -> Result<Boxed<TypedStmt>, AllocError>
         ensures typed { IfOk result (λ made. plain_typed_stmt made ≡ typed_form.break at) }
-        ensures notes { IfOk result (λ _. notes.new ≡ unless (rules.rule_21 looped) at 21 notes.old) }
+        ensures notes { IfOk result (λ _. notes.new ≡ unless (rules.loop_kept looped) at Rule.Loop notes.old) }
     {
-        notes.demand(looped, at, 21)?;
+        notes.demand(looped, at, Rule::Loop)?;
         let made = Boxed::new(self.alloc, TypedStmt::Break { at })?;
         Ok(made)
     }
@@ -244,9 +252,9 @@ impl Body<'_> {
         at: u32,
     ) -> Result<Boxed<TypedStmt>, AllocError>
         ensures typed { IfOk result (λ made. plain_typed_stmt made ≡ typed_form.continue at) }
-        ensures notes { IfOk result (λ _. notes.new ≡ unless (rules.rule_21 looped) at 21 notes.old) }
+        ensures notes { IfOk result (λ _. notes.new ≡ unless (rules.loop_kept looped) at Rule.Loop notes.old) }
     {
-        notes.demand(looped, at, 21)?;
+        notes.demand(looped, at, Rule::Loop)?;
         let made = Boxed::new(self.alloc, TypedStmt::Continue { at })?;
         Ok(made)
     }

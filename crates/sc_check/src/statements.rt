@@ -2,7 +2,7 @@
 
 ghost use Rattle.std.specs.Prelude.{◌≡◌, ◌++◌, ◌∷◌, [], true, map, IfOk};
 ghost use Rattle.std.specs.Option.{option_map};
-ghost use Rattle.sc_typing.specs.StatementNotes as notes_of;
+ghost use Rattle.sc_typing.proofs.StatementNotes as notes_of;
 ghost use Rattle.sc_typing.specs.Statements as typed;
 ghost use Rattle.sc_tree.specs.PlainStmt as form;
 ghost use Rattle.sc_tree.specs.PlainTypedStmt as typed_form;
@@ -105,15 +105,15 @@ impl Body<'_> {
         notes: &mut Notes,
         looped: bool,
         from: usize,
-        s: &Stmt,
+        statement: &Stmt,
     ) -> Result<Boxed<TypedStmt>, AllocError>
         ensures typed { IfOk result (λ made. plain_typed_stmt made
-            ≡ typed.typed_statement (within_of self.now) scope.old (plain_stmt s.now)) }
-        ensures scope { IfOk result (λ _. scope.new ≡ typed.after scope.old (plain_stmt s.now)) }
+            ≡ typed.typed_statement (within_of self.now) scope.old (plain_stmt statement.now)) }
+        ensures scope { IfOk result (λ _. scope.new ≡ typed.after scope.old (plain_stmt statement.now)) }
         ensures notes { IfOk result (λ _. notes.new
-            ≡ notes_of.note_statement (within_of self.now) looped from scope.old (plain_stmt s.now) notes.old) }
+            ≡ notes_of.note_statement (within_of self.now) looped from scope.old (plain_stmt statement.now) notes.old) }
     {
-        let made = match s {
+        let made = match statement {
             Stmt::Block(all) => self.block(scope, notes, looped, all.as_slice())?,
             Stmt::Empty => Boxed::new(self.alloc, TypedStmt::Empty)?,
             Stmt::Declare { locals } => self.declare(scope, notes, from, locals.as_slice())?,
@@ -379,21 +379,21 @@ impl Body<'_> {
         notes: &mut Notes,
         from: usize,
         body: &Stmt,
-        n: u32,
+        local: u32,
         bound: &Expr,
         at: u32,
         line: u32,
     ) -> Result<Boxed<TypedStmt>, AllocError>
         ensures typed { IfOk result (λ made. plain_typed_stmt made
             ≡ typed.typed_statement (within_of self.now) scope.old
-            (form.for_mine n (plain bound.now) (plain_stmt body.now) at line)) }
+            (form.for_mine local (plain bound.now) (plain_stmt body.now) at line)) }
         ensures scope { IfOk result (λ _. scope.new
-            ≡ typed.after scope.old (form.for_mine n (plain bound.now) (plain_stmt body.now) at line)) }
+            ≡ typed.after scope.old (form.for_mine local (plain bound.now) (plain_stmt body.now) at line)) }
         ensures notes { IfOk result (λ _. notes.new
             ≡ notes_of.note_statement (within_of self.now) true from scope.old
-            (form.for_mine n (plain bound.now) (plain_stmt body.now) at line) notes.old) }
+            (form.for_mine local (plain bound.now) (plain_stmt body.now) at line) notes.old) }
     {
-        let name = self.turns(scope, notes, n, at, line)?;
+        let name = self.turns(scope, notes, local, at, line)?;
         let bound = self.bound(scope, notes, bound)?;
         let body = self.statement(scope, notes, true, from, body)?;
         let made = TypedStmt::ForMine {

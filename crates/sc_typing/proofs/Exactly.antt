@@ -1,11 +1,13 @@
 -- What a function adds to the notes, said as a predicate on broken pairs, and how that is joined from parts.
-use Rattle.std.proofs.Common.{◌≡◌, refl, subst, ℕ, zero, suc, arith, Bool, true, false, List, [], ◌∷◌, ◌++◌, ◌⊎◌, inl, inr}
+use Rattle.std.proofs.Common.{◌≡◌, refl, subst, ℕ, zero, suc, arith, Bool, true, false, List, [], ◌∷◌, ◌++◌, ◌⊎◌, inl}
+use Rattle.std.proofs.Common.{inr}
 use Rattle.std.specs.List.{Contains}
 use Rattle.std.proofs.lemmas.List.Elements.{Contains-append_left, Contains-append_cases, Contains-push}
 use Rattle.sc_typing.specs.declared.notes.Breach.{Breach}
+use Rattle.sc_typing.specs.declared.rule.Rule.{Rule}
 use Rattle.sc_typing.specs.Notes.{unless}
-use Rattle.sc_typing.specs.ExpressionNotes.{Noting}
-use Rattle.sc_typing.specs.Broken.{breach}
+use Rattle.sc_typing.proofs.ExpressionNotes.{Noting}
+use Rattle.sc_typing.specs.BrokenExpressions.{breach}
 
 -- The pairs noted are those that were noted before, and those of the predicate.
 pub record Exact (f : Noting) (P : Breach → Type 0) : Type 0 where
@@ -14,7 +16,7 @@ pub record Exact (f : Noting) (P : Breach → Type 0) : Type 0 where
   pub complete : (broken : List Breach) (b : Breach) → P b → Contains (f broken) b
 
 -- a rule that is not kept, at the token
-pub data Fails (kept : Bool) (at rule : ℕ) : Breach → Type 0 where
+pub data Fails (kept : Bool) (at : ℕ) (rule : Rule) : Breach → Type 0 where
   fails : kept ≡ false → Fails kept at rule (breach at rule)
 
 pub data Never : Breach → Type 0 where
@@ -29,7 +31,7 @@ the_one x y (suc k, lt, e) = absurd (omega arith)
 pub exact-nothing : Exact (λ broken. broken) Never
 exact-nothing = record { sound = λ broken b h. inl h; keeps = λ broken b h. h; complete = λ broken b h. elim h [ ] }
 
-kept_note : (at rule : ℕ) → Exact (unless true at rule) (Fails true at rule)
+kept_note : (at : ℕ) (rule : Rule) → Exact (unless true at rule) (Fails true at rule)
 unfolding unless
 kept_note at rule =
     record { sound = λ broken b h. inl h; keeps = λ broken b h. h; complete = λ broken b h. kept broken b h }
@@ -37,7 +39,7 @@ kept_note at rule =
     kept : (broken : List Breach) (b : Breach) → Fails true at rule b → Contains broken b
     kept broken b (fails e) = absurd (let z : true ≡ false = e in cc)
 
-broken_note : (at rule : ℕ) → Exact (unless false at rule) (Fails false at rule)
+broken_note : (at : ℕ) (rule : Rule) → Exact (unless false at rule) (Fails false at rule)
 unfolding unless
 broken_note at rule = record {
   sound = λ broken b h. split broken b (Contains-append_cases broken (breach at rule ∷ []) b h);
@@ -54,7 +56,7 @@ broken_note at rule = record {
     there : (broken : List Breach) (b : Breach) → Fails false at rule b → Contains (broken ++ breach at rule ∷ []) b
     there broken b (fails e) = Contains-push broken (breach at rule)
 
-pub exact-unless : (kept : Bool) (at rule : ℕ) → Exact (unless kept at rule) (Fails kept at rule)
+pub exact-unless : (kept : Bool) (at : ℕ) (rule : Rule) → Exact (unless kept at rule) (Fails kept at rule)
 exact-unless true at rule = kept_note at rule
 exact-unless false at rule = broken_note at rule
 

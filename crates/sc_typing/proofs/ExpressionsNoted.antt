@@ -1,25 +1,41 @@
 -- What is noted of an expression is exactly what it breaks, or an expression within it.
 use Rattle.std.proofs.Common.{◌≡◌, refl, sym, ap, ◌∙◌, subst, ℕ, true, false, List, Option, Some, None, inl, inr}
-use Rattle.sc_tree.specs.Plain.{Expression, expression, Kind, number, null, my_proc, procs, size_int, name, format, chain, both, either, choice, assign, step, plus, prefix, deref, address, cast, postfix, call, Expressions, no_expressions, expressions, link, Links, no_links, links, Tail, index, up, down, Tails, no_tails, tails}
+use Rattle.sc_tree.specs.Plain.{Expression, expression, Kind, number, null, my_proc, procs, size_int, name, format}
+use Rattle.sc_tree.specs.Plain.{chain, both, either, choice, assign, step, plus, prefix, deref, address, cast, postfix}
+use Rattle.sc_tree.specs.Plain.{call, Expressions, no_expressions, expressions, link, Links, no_links, links, Tail}
+use Rattle.sc_tree.specs.Plain.{index, up, down, Tails, no_tails, tails}
 use Rattle.sc_typing.specs.declared.calls.Given.{Given}
 use Rattle.sc_typing.specs.declared.file.Meaning.{Meaning}
 use Rattle.sc_typing.specs.declared.file.Meaning.TheVariants as means
 use Rattle.sc_typing.specs.declared.known.Spot.{Spot}
 use Rattle.sc_typing.specs.declared.notes.Breach.{Breach}
 use Rattle.sc_typing.specs.declared.scope.InScope.{InScope}
+use Rattle.sc_typing.specs.declared.rule.Rule.{Rule}
+use Rattle.sc_typing.specs.declared.rule.Rule.TheVariants as rules
 use Rattle.sc_typing.specs.Known.{Judgement}
 use Rattle.sc_typing.specs.Source.{Source}
-use Rattle.sc_typing.specs.Operators.{Linked, join, Tailing}
-use Rattle.sc_typing.specs.Calls.{library_token, library_rule}
-use Rattle.sc_typing.specs.Typing.{judge, judge_tail, leading, called_meaning, format_given}
-use Rattle.sc_typing.specs.ExpressionNotes.{note_links, note_operands, note_tails, note_tail, note_behind, note_arguments}
-use Rattle.sc_typing.specs.Broken
-use Rattle.sc_typing.specs.Broken.{breach, BrokenIn, here, within_operand, Breaks, void_used, sign_no_int, test_no_scalar, IsOperand, IsTested, known_of, arguments_of, begun_chain, begun_tails}
+use Rattle.sc_typing.specs.Chains.{Linked, join}
+use Rattle.sc_typing.specs.Tails.{Tailing}
+use Rattle.sc_typing.specs.Arguments.{library_token, library_rule}
+use Rattle.sc_typing.specs.Typing.{judge, judge_tail}
+use Rattle.sc_typing.specs.Naming.{leading, called_meaning, format_given}
+use Rattle.sc_typing.proofs.ExpressionNotes.{note_links, note_operands, note_tails, note_tail, note_behind}
+use Rattle.sc_typing.proofs.ExpressionNotes.{note_arguments}
+use Rattle.sc_typing.specs.BrokenExpressions as Broken
+use Rattle.sc_typing.specs.ExpressionParts as Parts
+use Rattle.sc_typing.specs.ExpressionParts.{IsOperand, IsTested, known_of, arguments_of, begun_chain, begun_tails}
+use Rattle.sc_typing.specs.BrokenExpressions.{breach, BrokenIn, here, within_operand, Breaks, void_used, sign_no_int}
+use Rattle.sc_typing.specs.BrokenExpressions.{test_no_scalar}
 use Rattle.sc_typing.proofs.Exactly.{Exact, fails, Either, exact-then, exact-as}
 use Rattle.sc_typing.proofs.OperandsNoted.{Inside, ExactIn, Operand, exact-used, operand_breaks}
 use Rattle.sc_typing.proofs.KindsNoted as kinds
-use Rattle.sc_typing.proofs.NamesNoted.{is_declared, may_be_called, rule_2-is, rule_6_call-is, CallFails, exact-called, exact-name}
-use Rattle.sc_typing.proofs.ListsNoted.{at_one, SomeTested, SomeUsed, InArguments, some_argument, SomeLink, some_link, TailBreaks, SomeTail, some_tail, no_pointer, exact-no_expressions, exact-operand, exact-argument, exact-no_argument, exact-all_arguments, exact-behind_format, exact-no_links, exact-link, exact-no_tails, exact-tail_then, exact-index_tail, exact-up, exact-down}
+use Rattle.sc_typing.proofs.NamesNoted.{is_declared, may_be_called, is_declared-is, call_kept-is, CallFails}
+use Rattle.sc_typing.proofs.NamesNoted.{exact-called, exact-name}
+use Rattle.sc_typing.proofs.ListsNoted.{at_one, SomeTested, SomeUsed, InArguments, some_argument, SomeLink, some_link}
+use Rattle.sc_typing.proofs.ListsNoted.{TailBreaks, SomeTail, some_tail, no_pointer, exact-no_expressions}
+use Rattle.sc_typing.proofs.ListsNoted.{exact-operand, exact-argument, exact-no_argument, exact-all_arguments}
+use Rattle.sc_typing.proofs.ListsNoted.{exact-behind_format, exact-no_links, exact-link, exact-no_tails}
+use Rattle.sc_typing.proofs.ListsNoted.{exact-tail_then, exact-index_tail, exact-up, exact-down}
 use Rattle.sc_typing.proofs.OperandsNoted.{Tested}
 
 module _ (c : Source) (locals : List InScope) (i start at line : ℕ) where
@@ -63,19 +79,19 @@ module _ (c : Source) (locals : List InScope) (i start at line : ℕ) where
   exact-chain first rest h hs = exact-as to fro (exact-then (exact-then h (exact-used (known_of c locals first))) hs)
     where
       to : (b : Breach) → Chained first rest b → Inside c locals i (expression (chain first rest) start at line) b
-      to b (inl f) = operand_breaks Broken.chain_first b f
-      to b (inr (some_link s (inl f))) = within_operand (Broken.chain_link s) f
-      to b (inr (some_link s (inr (inl f)))) = operand_breaks (Broken.chain_link s) b (inr f)
+      to b (inl f) = operand_breaks Parts.chain_first b f
+      to b (inr (some_link s (inl f))) = within_operand (Parts.chain_link s) f
+      to b (inr (some_link s (inr (inl f)))) = operand_breaks (Parts.chain_link s) b (inr f)
       to b (inr (some_link s (inr (inr (fails f))))) = here (Broken.link_broken s f)
 
       fro : (b : Breach) → Inside c locals i (expression (chain first rest) start at line) b → Chained first rest b
       fro b (here (Broken.link_broken s f)) = inr (some_link s (inr (inr (fails f))))
       fro b (here (sign_no_int s f)) = elim s [ ]
       fro b (here (test_no_scalar s f)) = elim s [ ]
-      fro b (here (void_used Broken.chain_first f)) = inl (inr (fails f))
-      fro b (here (void_used (Broken.chain_link s) f)) = inr (some_link s (inr (inl (fails f))))
-      fro b (within_operand Broken.chain_first f) = inl (inl f)
-      fro b (within_operand (Broken.chain_link s) f) = inr (some_link s (inl f))
+      fro b (here (void_used Parts.chain_first f)) = inl (inr (fails f))
+      fro b (here (void_used (Parts.chain_link s) f)) = inr (some_link s (inr (inl (fails f))))
+      fro b (within_operand Parts.chain_first f) = inl (inl f)
+      fro b (within_operand (Parts.chain_link s) f) = inr (some_link s (inl f))
 
   abbrev Postfix : Expression → Tails → Breach → Type 0
   Postfix first rest =
@@ -89,10 +105,10 @@ module _ (c : Source) (locals : List InScope) (i start at line : ℕ) where
       exact-as to fro (exact-then (exact-then h (exact-used (judge c locals (leading rest) first))) hs)
     where
       to : (b : Breach) → Postfix first rest b → Inside c locals i (expression (postfix first rest) start at line) b
-      to b (inl f) = operand_breaks Broken.postfix_first b f
-      to b (inr (some_tail {it = index e at_index line_index} s (inl f))) = within_operand (Broken.postfix_index s) f
+      to b (inl f) = operand_breaks Parts.postfix_first b f
+      to b (inr (some_tail {it = index e at_index line_index} s (inl f))) = within_operand (Parts.postfix_index s) f
       to b (inr (some_tail {it = index e at_index line_index} s (inr (inl (inl f))))) =
-          operand_breaks (Broken.postfix_index s) b (inr f)
+          operand_breaks (Parts.postfix_index s) b (inr f)
       to b (inr (some_tail {it = index e at_index line_index} s (inr (inl (inr (fails f)))))) =
           here (Broken.index_no_int s f)
       to b (inr (some_tail {it = index e at_index line_index} s (inr (inr (no_pointer own f))))) =
@@ -107,10 +123,10 @@ module _ (c : Source) (locals : List InScope) (i start at line : ℕ) where
       fro b (here (Broken.down_broken s f)) = inr (some_tail s (fails f))
       fro b (here (sign_no_int s f)) = elim s [ ]
       fro b (here (test_no_scalar s f)) = elim s [ ]
-      fro b (here (void_used Broken.postfix_first f)) = inl (inr (fails f))
-      fro b (here (void_used (Broken.postfix_index s) f)) = inr (some_tail s (inr (inl (inl (fails f)))))
-      fro b (within_operand Broken.postfix_first f) = inl (inl f)
-      fro b (within_operand (Broken.postfix_index s) f) = inr (some_tail s (inl f))
+      fro b (here (void_used Parts.postfix_first f)) = inl (inr (fails f))
+      fro b (here (void_used (Parts.postfix_index s) f)) = inr (some_tail s (inr (inl (inl (fails f)))))
+      fro b (within_operand Parts.postfix_first f) = inl (inl f)
+      fro b (within_operand (Parts.postfix_index s) f) = inr (some_tail s (inl f))
 
   abbrev the_spot : Spot
   the_spot = record { start = start; at = at; line = line }
@@ -118,16 +134,16 @@ module _ (c : Source) (locals : List InScope) (i start at line : ℕ) where
   call_breaks : (n : ℕ) (args : Expressions) (m : Option Meaning) → called_meaning c locals n ≡ m → (b : Breach) →
       CallFails c m (format_given (called_meaning c locals n) args) (arguments_of c locals n args) the_spot b →
       Breaks c locals i start at line (call n args) b
-  call_breaks n args None e b (fails f) = Broken.called (rule_6_call-is c locals n ∙ ap may_be_called e)
+  call_breaks n args None e b (fails f) = Broken.called (call_kept-is c locals n ∙ ap may_be_called e)
   call_breaks n args (Some (means.Library l)) e b (fails f) = Broken.library_broken e f
   call_breaks n args (Some (means.Function l)) e b (fails f) = Broken.arguments_broken e f
   call_breaks n args (Some (means.Object o)) e b (fails f) =
-      Broken.called (rule_6_call-is c locals n ∙ ap may_be_called e)
+      Broken.called (call_kept-is c locals n ∙ ap may_be_called e)
   call_breaks n args (Some means.Nothing) e b (fails f) =
-      Broken.undeclared_call (rule_2-is c locals n ∙ ap is_declared e)
+      Broken.undeclared_call (is_declared-is c locals n ∙ ap is_declared e)
 
   of_undeclared : (m : Option Meaning) (given : Option Given) (js : List Judgement) → is_declared m ≡ false →
-      CallFails c m given js the_spot (breach at 2)
+      CallFails c m given js the_spot (breach at rules.Declared)
   of_undeclared None given js h = absurd (let z : true ≡ false = h in cc)
   of_undeclared (Some (means.Object o)) given js h = absurd (let z : true ≡ false = h in cc)
   of_undeclared (Some (means.Function f)) given js h = absurd (let z : true ≡ false = h in cc)
@@ -135,7 +151,7 @@ module _ (c : Source) (locals : List InScope) (i start at line : ℕ) where
   of_undeclared (Some means.Nothing) given js h = fails refl
 
   of_called : (m : Option Meaning) (given : Option Given) (js : List Judgement) → may_be_called m ≡ false →
-      CallFails c m given js the_spot (breach at 6)
+      CallFails c m given js the_spot (breach at rules.Called)
   of_called None given js h = fails refl
   of_called (Some (means.Object o)) given js h = fails refl
   of_called (Some (means.Function f)) given js h = absurd (let z : true ≡ false = h in cc)
@@ -150,31 +166,31 @@ module _ (c : Source) (locals : List InScope) (i start at line : ℕ) where
 
   call_to : (n : ℕ) (args : Expressions) (b : Breach) → Call n args b →
       Inside c locals i (expression (call n args) start at line) b
-  call_to n args b (inl (some_argument s f)) = operand_breaks (Broken.argument s) b f
+  call_to n args b (inl (some_argument s f)) = operand_breaks (Parts.argument s) b f
   call_to n args b (inr f) = here (call_breaks n args (called_meaning c locals n) refl b f)
 
   call_fro : (n : ℕ) (args : Expressions) (b : Breach) → Inside c locals i (expression (call n args) start at line) b →
       Call n args b
   call_fro n args b (here (Broken.undeclared_call f)) =
       inr (of_undeclared (called_meaning c locals n) (format_given (called_meaning c locals n) args)
-      (arguments_of c locals n args) (sym (rule_2-is c locals n) ∙ f))
+      (arguments_of c locals n args) (sym (is_declared-is c locals n) ∙ f))
   call_fro n args b (here (Broken.called f)) =
       inr (of_called (called_meaning c locals n) (format_given (called_meaning c locals n) args)
-      (arguments_of c locals n args) (sym (rule_6_call-is c locals n) ∙ f))
+      (arguments_of c locals n args) (sym (call_kept-is c locals n) ∙ f))
   call_fro n args b (here (Broken.arguments_broken e f)) =
       inr
       (subst (λ (m : Option Meaning). CallFails c m (format_given (called_meaning c locals n) args)
-      (arguments_of c locals n args) the_spot (breach at 19)) (sym e) (fails f))
+      (arguments_of c locals n args) the_spot (breach at rules.Arguments)) (sym e) (fails f))
   call_fro n args b (here (Broken.library_broken {library = library} e f)) =
       inr
       (subst (λ (m : Option Meaning). CallFails c m (format_given (called_meaning c locals n) args)
       (arguments_of c locals n args) the_spot
-      (breach (library_token library (format_given (called_meaning c locals n) args) the_spot) (library_rule library)))
+      (breach (library_token library (format_given (called_meaning c locals n) args) at) (library_rule library)))
       (sym e) (fails f))
   call_fro n args b (here (sign_no_int s f)) = elim s [ ]
   call_fro n args b (here (test_no_scalar s f)) = elim s [ ]
-  call_fro n args b (here (void_used (Broken.argument s) f)) = inl (some_argument s (inr (fails f)))
-  call_fro n args b (within_operand (Broken.argument s) f) = inl (some_argument s (inl f))
+  call_fro n args b (here (void_used (Parts.argument s) f)) = inl (some_argument s (inr (fails f)))
+  call_fro n args b (within_operand (Parts.argument s) f) = inl (some_argument s (inl f))
 
   exact-call : (n : ℕ) (args : Expressions) →
       Exact (note_behind c locals (format_given (called_meaning c locals n) args) args)

@@ -1,5 +1,6 @@
 -- What is noted of the objects, parameters and functions of a file is exactly what they break.
-use Rattle.std.proofs.Common.{◌≡◌, refl, sym, subst, ℕ, arith, Bool, true, false, List, [], ◌∷◌, length, Option, Some, None, ◌⊎◌, inl, inr}
+use Rattle.std.proofs.Common.{◌≡◌, refl, sym, subst, ℕ, arith, Bool, true, false, List, [], ◌∷◌, length, Option, Some}
+use Rattle.std.proofs.Common.{None, ◌⊎◌, inl, inr}
 use Rattle.std.specs.List.{Contains}
 use Rattle.std.proofs.lemmas.List.Elements.{Contains-append_right, Contains-append_cases}
 use Rattle.sc_base.specs.declared.shape.Shape.{Shape}
@@ -7,18 +8,24 @@ use Rattle.sc_tree.specs.declared.tree.Param.{Param}
 use Rattle.sc_tree.specs.PlainStmt.{Statements}
 use Rattle.sc_tree.specs.PlainTree.{PlainFunction, PlainTree}
 use Rattle.sc_typing.specs.declared.notes.Breach.{Breach}
+use Rattle.sc_typing.specs.declared.rule.Rule.{Rule}
+use Rattle.sc_typing.specs.declared.rule.Rule.TheVariants as rules
 use Rattle.sc_typing.specs.Scope.{Scope, nothing_in_scope}
 use Rattle.sc_typing.specs.Source.{Source}
-use Rattle.sc_typing.specs.Rules
-use Rattle.sc_typing.specs.Program.{definition_of, name_token, after_parameter, within, body_scope}
-use Rattle.sc_typing.specs.ExpressionNotes.{Noting}
-use Rattle.sc_typing.specs.ProgramNotes.{note_object_name, note_objects, note_parameter_name, note_parameter, note_parameters, note_body, note_function, note_functions, main_token, note_main, note_file}
-use Rattle.sc_typing.specs.Broken.{breach, InParameters, FunctionBreaks, FileBreaks}
-use Rattle.sc_typing.proofs.Exactly.{Exact, Fails, fails, Never, Either, the_one, exact-nothing, exact-unless, exact-then, exact-as}
+use Rattle.sc_typing.specs.NameRules
+use Rattle.sc_typing.specs.Program.{main_token, definition_of, name_token, after_parameter, within, body_scope}
+use Rattle.sc_typing.proofs.ExpressionNotes.{Noting}
+use Rattle.sc_typing.proofs.ProgramNotes.{note_object_name, note_objects, note_parameter_name, note_parameter}
+use Rattle.sc_typing.proofs.ProgramNotes.{note_parameters, note_body, note_function, note_functions, note_main}
+use Rattle.sc_typing.proofs.ProgramNotes.{note_file}
+use Rattle.sc_typing.specs.BrokenExpressions.{breach}
+use Rattle.sc_typing.specs.Broken.{InParameters, FunctionBreaks, FileBreaks}
+use Rattle.sc_typing.proofs.Exactly.{Exact, Fails, fails, Never, Either, the_one, exact-nothing, exact-unless}
+use Rattle.sc_typing.proofs.Exactly.{exact-then, exact-as}
 use Rattle.sc_typing.proofs.LocalsNoted.{DeclaredFails, exact-declared, SomeStatement, some_statement}
 use Rattle.sc_typing.proofs.StatementsNoted.{exact-all}
 
-fails_at : {kept : Bool} {at rule : ℕ} {b : Breach} → kept ≡ false → b ≡ breach at rule → Fails kept at rule b
+fails_at : {kept : Bool} {at : ℕ} {rule : Rule} {b : Breach} → kept ≡ false → b ≡ breach at rule → Fails kept at rule b
 fails_at {kept = kept} {at = at} {rule = rule} h e = subst (λ (x : Breach). Fails kept at rule x) (sym e) (fails h)
 
 -- ---- members of a list
@@ -63,12 +70,12 @@ module _ {X : Type 0} (Q : X → Breach → Type 0) where
 -- ---- objects
 
 abbrev pub ObjectBreaks : Source → Shape → Breach → Type 0
-ObjectBreaks c o = Either (Fails (Rules.rule_1_file c o.name o.at) o.at 1) (Fails (Rules.rule_3 c o.name) o.at 3)
+ObjectBreaks c o = Either (Fails (NameRules.declared_once_in_file c o.name o.at) o.at rules.DeclaredOnce) (Fails (NameRules.not_of_library c o.name) o.at rules.LibraryName)
 
 exact-object_name : (c : Source) (o : Shape) → Exact (note_object_name c o) (ObjectBreaks c o)
 unfolding note_object_name
 exact-object_name c o =
-    exact-then (exact-unless (Rules.rule_1_file c o.name o.at) o.at 1) (exact-unless (Rules.rule_3 c o.name) o.at 3)
+    exact-then (exact-unless (NameRules.declared_once_in_file c o.name o.at) o.at rules.DeclaredOnce) (exact-unless (NameRules.not_of_library c o.name) o.at rules.LibraryName)
 
 exact-objects : (c : Source) (objects : List Shape) → Exact (note_objects c objects) (AtMember (ObjectBreaks c) objects)
 exact-objects c [] = exact-no_member (ObjectBreaks c)
@@ -87,13 +94,13 @@ exact-parameter_name c p s (Some n) = exact-declared c 0 n (name_token p) s
 
 abbrev pub ParameterBreaks : Source → (defined : Bool) → Scope → Param → Breach → Type 0
 ParameterBreaks c defined s p =
-    Either (Fails (Rules.rule_5_parameter defined p.name) p.at 5) (ParameterNameFails c p s p.name)
+    Either (Fails (NameRules.parameter_kept defined p.name) p.at rules.Prototype) (ParameterNameFails c p s p.name)
 
 exact-parameter : (c : Source) (defined : Bool) (s : Scope) (p : Param) →
     Exact (note_parameter c defined s p) (ParameterBreaks c defined s p)
 unfolding note_parameter
 exact-parameter c defined s p =
-    exact-then (exact-unless (Rules.rule_5_parameter defined p.name) p.at 5) (exact-parameter_name c p s p.name)
+    exact-then (exact-unless (NameRules.parameter_kept defined p.name) p.at rules.Prototype) (exact-parameter_name c p s p.name)
 
 pub data SomeParameter (c : Source) (defined : Bool) (s : Scope) (params : List Param) (b : Breach) : Type 0 where
   some_parameter : {there : Scope} {p : Param} → InParameters there p s params → ParameterBreaks c defined there p b →
@@ -125,17 +132,17 @@ module _ (c : Source) (f : PlainFunction) where
   Parameters defined = SomeParameter c defined nothing_in_scope f.params
 
   abbrev BodyBreaks : Option Statements → Breach → Type 0
-  BodyBreaks None = Either (Fails (Rules.rule_5 c (definition_of f)) f.at 5) (Parameters false)
+  BodyBreaks None = Either (Fails (NameRules.prototype_kept c (definition_of f)) f.at rules.Prototype) (Parameters false)
   BodyBreaks (Some all) =
-      Either (Either (Fails (Rules.rule_1_file c f.name f.at) f.at 1) (Parameters true))
+      Either (Either (Fails (NameRules.declared_once_in_file c f.name f.at) f.at rules.DeclaredOnce) (Parameters true))
       (SomeStatement (within c f) false 0 (body_scope f) all)
 
   exact-body : (body : Option Statements) → Exact (note_body c f body) (BodyBreaks body)
   exact-body None =
-      exact-then (exact-unless (Rules.rule_5 c (definition_of f)) f.at 5)
+      exact-then (exact-unless (NameRules.prototype_kept c (definition_of f)) f.at rules.Prototype)
       (exact-parameters c false nothing_in_scope f.params)
   exact-body (Some all) =
-      exact-then (exact-then (exact-unless (Rules.rule_1_file c f.name f.at) f.at 1)
+      exact-then (exact-then (exact-unless (NameRules.declared_once_in_file c f.name f.at) f.at rules.DeclaredOnce)
       (exact-parameters c true nothing_in_scope f.params))
       (exact-all (within c f) false 0 (body_scope f) all)
 
@@ -174,7 +181,7 @@ module _ (c : Source) (f : PlainFunction) where
   of_body e b h = subst (λ (x : Option Statements). BodyBreaks x b) (sym e) h
 
   abbrev Function : Breach → Type 0
-  Function = Either (Fails (Rules.rule_3 c f.name) f.at 3) (BodyBreaks f.body)
+  Function = Either (Fails (NameRules.not_of_library c f.name) f.at rules.LibraryName) (BodyBreaks f.body)
 
   function_to : (b : Breach) → Function b → FunctionBreaks c f b
   function_to b (inl (fails h)) = FunctionBreaks.library_declared h refl
@@ -193,7 +200,7 @@ module _ (c : Source) (f : PlainFunction) where
   pub exact-function : Exact (note_function c f) (FunctionBreaks c f)
   unfolding note_function
   exact-function =
-      exact-as function_to function_fro (exact-then (exact-unless (Rules.rule_3 c f.name) f.at 3) (exact-body f.body))
+      exact-as function_to function_fro (exact-then (exact-unless (NameRules.not_of_library c f.name) f.at rules.LibraryName) (exact-body f.body))
 
 exact-functions : (c : Source) (functions : List PlainFunction) →
     Exact (note_functions c functions) (AtMember (FunctionBreaks c) functions)
@@ -205,12 +212,12 @@ exact-functions c (f ∷ more) = exact-member (FunctionBreaks c) f more (exact-f
 module _ (c : Source) (tree : PlainTree) where
   abbrev MainFails : Breach → Type 0
   MainFails =
-      Fails (Rules.rule_4 (Rules.main_definition c)) (main_token (length tree.lines) (Rules.main_definition c)) 4
+      Fails (NameRules.main_kept (NameRules.main_definition c)) (main_token (length tree.lines) (NameRules.main_definition c)) rules.Main
 
   exact-main : Exact (note_main c (length tree.lines)) MainFails
   unfolding note_main
   exact-main =
-      exact-unless (Rules.rule_4 (Rules.main_definition c)) (main_token (length tree.lines) (Rules.main_definition c)) 4
+      exact-unless (NameRules.main_kept (NameRules.main_definition c)) (main_token (length tree.lines) (NameRules.main_definition c)) rules.Main
 
   abbrev File : Breach → Type 0
   File = Either (Either (AtMember (ObjectBreaks c) tree.objects) (AtMember (FunctionBreaks c) tree.functions)) MainFails

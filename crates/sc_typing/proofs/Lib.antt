@@ -1,3 +1,7 @@
+pub mod ExpressionNotes
+pub mod StatementNotes
+pub mod ProgramNotes
+pub mod Directives
 pub mod Exactly
 pub mod OneFirst
 pub mod OperandsNoted
@@ -10,3 +14,8 @@ pub mod SimpleNoted
 pub mod StatementsNoted
 pub mod FunctionsNoted
 pub mod Noted
+pub mod Agrees
+pub mod TypedKinds
+pub mod TypedLists
+pub mod TypedValues
+pub mod WellTyped

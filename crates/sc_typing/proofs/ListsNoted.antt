@@ -3,20 +3,28 @@
 use Rattle.std.proofs.Common.{◌≡◌, refl, sym, ◌∙◌, ℕ, Bool, true, false, List, Option, Some, None, inl, inr}
 use Rattle.std.specs.Prelude.{nat_lt, if◌then◌else◌}
 use Rattle.sc_base.specs.declared.operator.Binary.{Binary}
-use Rattle.sc_tree.specs.Plain.{Expression, Expressions, no_expressions, expressions, link, Links, no_links, links, Tail, index, up, down, Tails, no_tails, tails}
+use Rattle.sc_tree.specs.Plain.{Expression, Expressions, no_expressions, expressions, link, Links, no_links, links}
+use Rattle.sc_tree.specs.Plain.{Tail, index, up, down, Tails, no_tails, tails}
 use Rattle.sc_typing.specs.declared.calls.Given.{Given}
 use Rattle.sc_typing.specs.declared.notes.Breach.{Breach}
 use Rattle.sc_typing.specs.declared.scope.InScope.{InScope}
+use Rattle.sc_typing.specs.declared.rule.Rule.{Rule}
+use Rattle.sc_typing.specs.declared.rule.Rule.TheVariants as rules
 use Rattle.sc_typing.specs.Known.{Judgement}
 use Rattle.sc_typing.specs.Source.{Source}
 use Rattle.sc_typing.specs.Rules
-use Rattle.sc_typing.specs.Operators.{Linked, join_kept, join, level_of, link_rule, Tailing, pointed, stepped}
+use Rattle.sc_typing.specs.Chains.{Linked, join_kept, join, level_of, link_rule}
+use Rattle.sc_typing.specs.Tails.{Tailing, pointed, stepped}
 use Rattle.sc_typing.specs.Typing.{judge, judge_tail}
 use Rattle.sc_typing.specs.Notes.{unless}
-use Rattle.sc_typing.specs.ExpressionNotes.{note_one, note_join, note_index, note_step, note_links, note_operands, note_tails, note_tail, note_behind, note_arguments}
-use Rattle.sc_typing.specs.Broken.{breach, known_of, Among, Argument, plain, behind, IsLink, IsTail}
-use Rattle.sc_typing.proofs.Exactly.{Exact, Fails, fails, Never, Either, exact-nothing, exact-unless, exact-then, exact-as}
-use Rattle.sc_typing.proofs.OperandsNoted.{Inside, ExactIn, Operand, Tested, OneFails, exact-used, exact-tested, exact-one}
+use Rattle.sc_typing.proofs.ExpressionNotes.{note_one, note_join, note_index, note_step, note_links, note_operands}
+use Rattle.sc_typing.proofs.ExpressionNotes.{note_tails, note_tail, note_behind, note_arguments}
+use Rattle.sc_typing.specs.ExpressionParts.{known_of, Among, Argument, plain, behind, IsLink, IsTail}
+use Rattle.sc_typing.specs.BrokenExpressions.{breach}
+use Rattle.sc_typing.proofs.Exactly.{Exact, Fails, fails, Never, Either, exact-nothing, exact-unless, exact-then}
+use Rattle.sc_typing.proofs.Exactly.{exact-as}
+use Rattle.sc_typing.proofs.OperandsNoted.{Inside, ExactIn, Operand, Tested, OneFails, exact-used, exact-tested}
+use Rattle.sc_typing.proofs.OperandsNoted.{exact-one}
 
 -- ---- expressions of a list
 
@@ -151,10 +159,10 @@ module _ (c : Source) (locals : List InScope) where
 
   -- an index that is the object's own needs no pointer before it
   pub data NoPointer (t : Tailing) (at : ℕ) : Breach → Type 0 where
-    no_pointer : nat_lt 0 t.skip ≡ false → pointed t ≡ false → NoPointer t at (breach at 13)
+    no_pointer : nat_lt 0 t.skip ≡ false → pointed t ≡ false → NoPointer t at (breach at rules.Pointer)
 
   abbrev pub IndexFails : Tailing → Judgement → (at : ℕ) → Breach → Type 0
-  IndexFails t j at = Either (OneFails j (Rules.rule_8 j.known) at 8) (NoPointer t at)
+  IndexFails t j at = Either (OneFails j (Rules.index_kept j.known) at rules.Index) (NoPointer t at)
 
   exact-index : (t : Tailing) (j : Judgement) (at : ℕ) → Exact (note_index t j at) (IndexFails t j at)
   unfolding note_index
@@ -163,35 +171,35 @@ module _ (c : Source) (locals : List InScope) where
       own : (b : Breach) → nat_lt 0 t.skip ≡ true → NoPointer t at b → Never b
       own b e (no_pointer s p) = absurd (let z : true ≡ false = sym e ∙ s in cc)
 
-      own_fails : nat_lt 0 t.skip ≡ true → (b : Breach) → IndexFails t j at b → OneFails j (Rules.rule_8 j.known) at 8 b
+      own_fails : nat_lt 0 t.skip ≡ true → (b : Breach) → IndexFails t j at b → OneFails j (Rules.index_kept j.known) at rules.Index b
       own_fails e b (inl h) = h
       own_fails e b (inr h) = elim (own b e h) [ ]
 
       to : nat_lt 0 t.skip ≡ false → (b : Breach) →
-          Either (OneFails j (Rules.rule_8 j.known) at 8) (Fails (pointed t) at 13) b → IndexFails t j at b
+          Either (OneFails j (Rules.index_kept j.known) at rules.Index) (Fails (pointed t) at rules.Pointer) b → IndexFails t j at b
       to e b (inl h) = inl h
       to e b (inr (fails p)) = inr (no_pointer e p)
 
       fro : (b : Breach) → IndexFails t j at b →
-          Either (OneFails j (Rules.rule_8 j.known) at 8) (Fails (pointed t) at 13) b
+          Either (OneFails j (Rules.index_kept j.known) at rules.Index) (Fails (pointed t) at rules.Pointer) b
       fro b (inl h) = inl h
       fro b (inr (no_pointer s p)) = inr (fails p)
 
       go : (own : Bool) → nat_lt 0 t.skip ≡ own →
-          Exact (λ broken. if own then note_one j (Rules.rule_8 j.known) at 8 broken else unless (pointed t) at 13
-          (note_one j (Rules.rule_8 j.known) at 8 broken)) (IndexFails t j at)
-      go true e = exact-as (λ b h. inl h) (own_fails e) (exact-one j (Rules.rule_8 j.known) at 8)
+          Exact (λ broken. if own then note_one j (Rules.index_kept j.known) at rules.Index broken else unless (pointed t) at rules.Pointer
+          (note_one j (Rules.index_kept j.known) at rules.Index broken)) (IndexFails t j at)
+      go true e = exact-as (λ b h. inl h) (own_fails e) (exact-one j (Rules.index_kept j.known) at rules.Index)
       go false e =
-          exact-as (to e) fro (exact-then (exact-one j (Rules.rule_8 j.known) at 8) (exact-unless (pointed t) at 13))
+          exact-as (to e) fro (exact-then (exact-one j (Rules.index_kept j.known) at rules.Index) (exact-unless (pointed t) at rules.Pointer))
 
   abbrev pub TailBreaks : Tailing → Tail → Breach → Type 0
   TailBreaks t (index e at line) = Either (Inside c locals 0 e) (IndexFails t (known_of c locals e) at)
-  TailBreaks t (up at line) = Fails (stepped t) at 16
-  TailBreaks t (down at line) = Fails (stepped t) at 16
+  TailBreaks t (up at line) = Fails (stepped t) at rules.Update
+  TailBreaks t (down at line) = Fails (stepped t) at rules.Update
 
-  exact-step : (t : Tailing) (at : ℕ) → Exact (note_step t at) (Fails (stepped t) at 16)
+  exact-step : (t : Tailing) (at : ℕ) → Exact (note_step t at) (Fails (stepped t) at rules.Update)
   unfolding note_step
-  exact-step t at = exact-unless (stepped t) at 16
+  exact-step t at = exact-unless (stepped t) at rules.Update
 
   pub exact-index_tail : (t : Tailing) (e : Expression) (at line : ℕ) → ExactIn c locals 0 e →
       Exact (note_tail c locals t (index e at line)) (TailBreaks t (index e at line))

@@ -3,15 +3,21 @@
 use Rattle.std.proofs.Common.{◌+◌, ℕ, Bool, List, [], ◌∷◌, Option, Some, None, inl, inr}
 use Rattle.sc_base.specs.declared.shape.Ty.{Ty}
 use Rattle.sc_tree.specs.Plain.{Expression}
-use Rattle.sc_tree.specs.PlainStmt.{Declared, Statement, Statements, no_statements, statements, arm, Arms, no_arms, arms}
+use Rattle.sc_tree.specs.PlainStmt.{Declared, Statement, Statements, no_statements, statements, arm, Arms, no_arms}
+use Rattle.sc_tree.specs.PlainStmt.{arms}
 use Rattle.sc_typing.specs.declared.notes.Breach.{Breach}
+use Rattle.sc_typing.specs.declared.rule.Rule.{Rule}
+use Rattle.sc_typing.specs.declared.rule.Rule.TheVariants as rules
 use Rattle.sc_typing.specs.Scope.{Scope}
 use Rattle.sc_typing.specs.Source.{Source}
 use Rattle.sc_typing.specs.Rules
+use Rattle.sc_typing.specs.NameRules
 use Rattle.sc_typing.specs.Typing.{judge}
 use Rattle.sc_typing.specs.Statements.{Within, after, after_declared}
-use Rattle.sc_typing.specs.StatementNotes.{note_declared, note_initial, note_local, note_locals, note_used_value, note_test, note_used_if, note_test_if, note_statement, note_all, note_arms}
-use Rattle.sc_typing.specs.Broken.{place, InSequence, InArms, InLocals, BrokenBy}
+use Rattle.sc_typing.proofs.StatementNotes.{note_declared, note_initial, note_local, note_locals, note_used_value}
+use Rattle.sc_typing.proofs.StatementNotes.{note_test, note_used_if, note_test_if, note_statement, note_all, note_arms}
+use Rattle.sc_typing.specs.StatementParts.{place, InSequence, InArms, InLocals}
+use Rattle.sc_typing.specs.BrokenStatements.{BrokenBy}
 use Rattle.sc_typing.proofs.Exactly.{Exact, Fails, Never, Either, exact-nothing, exact-unless, exact-then, exact-as}
 use Rattle.sc_typing.proofs.OperandsNoted.{Inside, Operand, Tested, OneFails, exact-used, exact-tested, exact-one}
 use Rattle.sc_typing.proofs.ExpressionsNoted.{exact-value}
@@ -46,26 +52,26 @@ exact-test_if c s (Some e) = exact-test c s e
 -- ---- declarations
 
 abbrev pub DeclaredFails : Source → (from n at : ℕ) → Scope → Breach → Type 0
-DeclaredFails c from n at s = Either (Fails (Rules.rule_1 from n s) at 1) (Fails (Rules.rule_3 c n) at 3)
+DeclaredFails c from n at s = Either (Fails (NameRules.declared_once from n s) at rules.DeclaredOnce) (Fails (NameRules.not_of_library c n) at rules.LibraryName)
 
 pub exact-declared : (c : Source) (from n at : ℕ) (s : Scope) →
     Exact (note_declared c from n at s) (DeclaredFails c from n at s)
 unfolding note_declared
 exact-declared c from n at s =
-    exact-then (exact-unless (Rules.rule_1 from n s) at 1) (exact-unless (Rules.rule_3 c n) at 3)
+    exact-then (exact-unless (NameRules.declared_once from n s) at rules.DeclaredOnce) (exact-unless (NameRules.not_of_library c n) at rules.LibraryName)
 
 abbrev pub InitialBreaks : Source → Scope → Ty → (at : ℕ) → Option Expression → Breach → Type 0
 InitialBreaks c s ty at None = Never
 InitialBreaks c s ty at (Some e) =
     Either (Inside c s.locals 0 e) (OneFails (judge c s.locals 0 e) (Rules.fit (judge c s.locals 0 e).known ty)
-    (at + 1) 15)
+    (at + 1) rules.Assignment)
 
 exact-initial : (c : Source) (s : Scope) (ty : Ty) (at : ℕ) (e : Option Expression) →
     Exact (note_initial c s ty at e) (InitialBreaks c s ty at e)
 exact-initial c s ty at None = exact-nothing
 exact-initial c s ty at (Some e) =
     exact-then (exact-value c s.locals 0 e)
-    (exact-one (judge c s.locals 0 e) (Rules.fit (judge c s.locals 0 e).known ty) (at + 1) 15)
+    (exact-one (judge c s.locals 0 e) (Rules.fit (judge c s.locals 0 e).known ty) (at + 1) rules.Assignment)
 
 abbrev pub LocalBreaks : Source → (from : ℕ) → Scope → Declared → Breach → Type 0
 LocalBreaks c from s l = Either (InitialBreaks c s l.ty l.at l.init) (DeclaredFails c from l.name l.at s)

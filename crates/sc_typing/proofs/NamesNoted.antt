@@ -9,15 +9,20 @@ use Rattle.sc_typing.specs.declared.file.Meaning.TheVariants as means
 use Rattle.sc_typing.specs.declared.known.Spot.{Spot}
 use Rattle.sc_typing.specs.declared.notes.Breach.{Breach}
 use Rattle.sc_typing.specs.declared.scope.InScope.{InScope}
+use Rattle.sc_typing.specs.declared.rule.Rule.{Rule}
+use Rattle.sc_typing.specs.declared.rule.Rule.TheVariants as rules
 use Rattle.sc_typing.specs.Known.{Judgement}
 use Rattle.sc_typing.specs.Scope.{innermost}
 use Rattle.sc_typing.specs.Source.{Source, meaning_of}
 use Rattle.sc_typing.specs.Rules
-use Rattle.sc_typing.specs.Calls.{fitted_of, function_fit, library_token, library_rule}
-use Rattle.sc_typing.specs.Typing.{unless_local, called_meaning}
-use Rattle.sc_typing.specs.ExpressionNotes.{note_object, note_meaning, note_name_in, note_name, note_call}
-use Rattle.sc_typing.specs.Broken
-use Rattle.sc_typing.specs.Broken.{breach, BrokenIn, here, within_operand, Breaks, void_used, sign_no_int, test_no_scalar, arguments_of}
+use Rattle.sc_typing.specs.NameRules
+use Rattle.sc_typing.specs.Arguments.{arguments_kept, library_kept, library_token, library_rule}
+use Rattle.sc_typing.specs.Naming.{unless_local, called_meaning}
+use Rattle.sc_typing.proofs.ExpressionNotes.{note_object, note_meaning, note_name_in, note_name, note_call}
+use Rattle.sc_typing.specs.BrokenExpressions as Broken
+use Rattle.sc_typing.specs.ExpressionParts.{arguments_of}
+use Rattle.sc_typing.specs.BrokenExpressions.{breach, BrokenIn, here, within_operand, Breaks, void_used, sign_no_int}
+use Rattle.sc_typing.specs.BrokenExpressions.{test_no_scalar}
 use Rattle.sc_typing.proofs.Exactly.{Exact, Fails, fails, Never, exact-nothing, exact-unless, exact-as}
 use Rattle.sc_typing.proofs.OperandsNoted.{Inside, ExactIn}
 
@@ -25,43 +30,43 @@ use Rattle.sc_typing.proofs.OperandsNoted.{Inside, ExactIn}
 
 abbrev pub is_declared : Option Meaning → Bool
 is_declared None = true
-is_declared (Some m) = Rules.is_something m
+is_declared (Some m) = NameRules.is_something m
 
 abbrev pub may_stand_alone : Option Meaning → Bool
 may_stand_alone None = true
-may_stand_alone (Some m) = Rules.opposite (Rules.is_function m)
+may_stand_alone (Some m) = Rules.opposite (NameRules.is_function m)
 
 abbrev pub may_be_called : Option Meaning → Bool
 may_be_called None = false
-may_be_called (Some m) = Rules.opposite (Rules.is_object m)
+may_be_called (Some m) = Rules.opposite (NameRules.is_object m)
 
-pub rule_2-is : (c : Source) (locals : List InScope) (n : ℕ) →
-    Rules.rule_2 c locals n ≡ is_declared (called_meaning c locals n)
+pub is_declared-is : (c : Source) (locals : List InScope) (n : ℕ) →
+    NameRules.is_declared c locals n ≡ is_declared (called_meaning c locals n)
 unfolding called_meaning
-rule_2-is c locals n = go (innermost n locals)
+is_declared-is c locals n = go (innermost n locals)
   where
     go : (o : Option InScope) →
-        (Rules.is_local o || Rules.is_something (meaning_of c n)) ≡ is_declared (unless_local c n o)
+        (NameRules.is_local o || NameRules.is_something (meaning_of c n)) ≡ is_declared (unless_local c n o)
     go None = refl
     go (Some l) = refl
 
-pub rule_6-is : (c : Source) (locals : List InScope) (n : ℕ) →
-    Rules.rule_6 c locals n ≡ may_stand_alone (called_meaning c locals n)
+pub name_kept-is : (c : Source) (locals : List InScope) (n : ℕ) →
+    NameRules.name_kept c locals n ≡ may_stand_alone (called_meaning c locals n)
 unfolding called_meaning
-rule_6-is c locals n = go (innermost n locals)
+name_kept-is c locals n = go (innermost n locals)
   where
     go : (o : Option InScope) →
-        (Rules.is_local o || Rules.opposite (Rules.is_function (meaning_of c n))) ≡ may_stand_alone (unless_local c n o)
+        (NameRules.is_local o || Rules.opposite (NameRules.is_function (meaning_of c n))) ≡ may_stand_alone (unless_local c n o)
     go None = refl
     go (Some l) = refl
 
-pub rule_6_call-is : (c : Source) (locals : List InScope) (n : ℕ) →
-    Rules.rule_6_call c locals n ≡ may_be_called (called_meaning c locals n)
+pub call_kept-is : (c : Source) (locals : List InScope) (n : ℕ) →
+    NameRules.call_kept c locals n ≡ may_be_called (called_meaning c locals n)
 unfolding called_meaning
-rule_6_call-is c locals n = go (innermost n locals)
+call_kept-is c locals n = go (innermost n locals)
   where
     go : (o : Option InScope) →
-        Rules.opposite (Rules.is_local o || Rules.is_object (meaning_of c n)) ≡ may_be_called (unless_local c n o)
+        Rules.opposite (NameRules.is_local o || NameRules.is_object (meaning_of c n)) ≡ may_be_called (unless_local c n o)
     go None = refl
     go (Some l) = refl
 
@@ -69,28 +74,28 @@ rule_6_call-is c locals n = go (innermost n locals)
 
 abbrev pub ObjectFails : (indices : ℕ) → Option Shape → (at : ℕ) → Breach → Type 0
 ObjectFails indices None at = Never
-ObjectFails indices (Some object) at = Fails (Rules.rule_7 object indices) at 7
+ObjectFails indices (Some object) at = Fails (Rules.indices_kept object indices) at rules.Indices
 
 abbrev pub NameFails : Source → (indices : ℕ) → Option Meaning → (at : ℕ) → Breach → Type 0
 NameFails c indices None at = Never
 NameFails c indices (Some (means.Object o)) at = ObjectFails indices (slice_get c.objects o) at
-NameFails c indices (Some (means.Function _)) at = Fails false at 6
-NameFails c indices (Some (means.Library _)) at = Fails false at 6
-NameFails c indices (Some means.Nothing) at = Fails false at 2
+NameFails c indices (Some (means.Function _)) at = Fails false at rules.Called
+NameFails c indices (Some (means.Library _)) at = Fails false at rules.Called
+NameFails c indices (Some means.Nothing) at = Fails false at rules.Declared
 
 exact-object : (indices : ℕ) (object : Option Shape) (spot : Spot) →
     Exact (note_object indices object spot) (ObjectFails indices object spot.at)
 exact-object indices None spot = exact-nothing
-exact-object indices (Some object) spot = exact-unless (Rules.rule_7 object indices) spot.at 7
+exact-object indices (Some object) spot = exact-unless (Rules.indices_kept object indices) spot.at rules.Indices
 
 exact-meaning : (c : Source) (indices : ℕ) (m : Meaning) (spot : Spot) →
     Exact (note_meaning c indices m spot) (NameFails c indices (Some m) spot.at)
 exact-meaning c indices (means.Object o) spot = exact-object indices (slice_get c.objects o) spot
-exact-meaning c indices (means.Function _) spot = exact-unless false spot.at 6
-exact-meaning c indices (means.Library _) spot = exact-unless false spot.at 6
-exact-meaning c indices means.Nothing spot = exact-unless false spot.at 2
+exact-meaning c indices (means.Function _) spot = exact-unless false spot.at rules.Called
+exact-meaning c indices (means.Library _) spot = exact-unless false spot.at rules.Called
+exact-meaning c indices means.Nothing spot = exact-unless false spot.at rules.Declared
 
-exact-named : (c : Source) (locals : List InScope) (indices n : ℕ) (spot : Spot) →
+pub exact-named : (c : Source) (locals : List InScope) (indices n : ℕ) (spot : Spot) →
     Exact (note_name c locals indices n spot) (NameFails c indices (called_meaning c locals n) spot.at)
 unfolding note_name called_meaning
 exact-named c locals indices n spot = go (innermost n locals)
@@ -113,33 +118,33 @@ module _ (c : Source) (locals : List InScope) (i start at line n : ℕ) where
       NameBreaks b
   name_breaks None e b h = elim h [ ]
   name_breaks (Some (means.Object o)) e b h = object_breaks o e (slice_get c.objects o) refl b h
-  name_breaks (Some (means.Function f)) e b (fails h) = Broken.uncalled (rule_6-is c locals n ∙ ap may_stand_alone e)
-  name_breaks (Some (means.Library l)) e b (fails h) = Broken.uncalled (rule_6-is c locals n ∙ ap may_stand_alone e)
-  name_breaks (Some means.Nothing) e b (fails h) = Broken.undeclared (rule_2-is c locals n ∙ ap is_declared e)
+  name_breaks (Some (means.Function f)) e b (fails h) = Broken.uncalled (name_kept-is c locals n ∙ ap may_stand_alone e)
+  name_breaks (Some (means.Library l)) e b (fails h) = Broken.uncalled (name_kept-is c locals n ∙ ap may_stand_alone e)
+  name_breaks (Some means.Nothing) e b (fails h) = Broken.undeclared (is_declared-is c locals n ∙ ap is_declared e)
 
-  of_undeclared : (m : Option Meaning) → is_declared m ≡ false → NameFails c i m at (breach at 2)
+  of_undeclared : (m : Option Meaning) → is_declared m ≡ false → NameFails c i m at (breach at rules.Declared)
   of_undeclared None h = absurd (let z : true ≡ false = h in cc)
   of_undeclared (Some (means.Object o)) h = absurd (let z : true ≡ false = h in cc)
   of_undeclared (Some (means.Function f)) h = absurd (let z : true ≡ false = h in cc)
   of_undeclared (Some (means.Library l)) h = absurd (let z : true ≡ false = h in cc)
   of_undeclared (Some means.Nothing) h = fails refl
 
-  of_uncalled : (m : Option Meaning) → may_stand_alone m ≡ false → NameFails c i m at (breach at 6)
+  of_uncalled : (m : Option Meaning) → may_stand_alone m ≡ false → NameFails c i m at (breach at rules.Called)
   of_uncalled None h = absurd (let z : true ≡ false = h in cc)
   of_uncalled (Some (means.Object o)) h = absurd (let z : true ≡ false = h in cc)
   of_uncalled (Some (means.Function f)) h = fails refl
   of_uncalled (Some (means.Library l)) h = fails refl
   of_uncalled (Some means.Nothing) h = absurd (let z : true ≡ false = h in cc)
 
-  of_missing : (o : ℕ) (object : Shape) → slice_get c.objects o ≡ Some object → Rules.rule_7 object i ≡ false →
-      NameFails c i (Some (means.Object o)) at (breach at 7)
-  of_missing o object e h = subst (λ (x : Option Shape). ObjectFails i x at (breach at 7)) (sym e) (fails h)
+  of_missing : (o : ℕ) (object : Shape) → slice_get c.objects o ≡ Some object → Rules.indices_kept object i ≡ false →
+      NameFails c i (Some (means.Object o)) at (breach at rules.Indices)
+  of_missing o object e h = subst (λ (x : Option Shape). ObjectFails i x at (breach at rules.Indices)) (sym e) (fails h)
 
   name_fails : (b : Breach) → NameBreaks b → NameFails c i (called_meaning c locals n) at b
-  name_fails b (Broken.undeclared h) = of_undeclared (called_meaning c locals n) (sym (rule_2-is c locals n) ∙ h)
-  name_fails b (Broken.uncalled h) = of_uncalled (called_meaning c locals n) (sym (rule_6-is c locals n) ∙ h)
+  name_fails b (Broken.undeclared h) = of_undeclared (called_meaning c locals n) (sym (is_declared-is c locals n) ∙ h)
+  name_fails b (Broken.uncalled h) = of_uncalled (called_meaning c locals n) (sym (name_kept-is c locals n) ∙ h)
   name_fails b (Broken.indices_missing {o = o} {object = object} e f h) =
-      subst (λ (m : Option Meaning). NameFails c i m at (breach at 7)) (sym e) (of_missing o object f h)
+      subst (λ (m : Option Meaning). NameFails c i m at (breach at rules.Indices)) (sym e) (of_missing o object f h)
   name_fails b (sign_no_int s h) = elim s [ ]
   name_fails b (test_no_scalar s h) = elim s [ ]
   name_fails b (void_used s h) = elim s [ ]
@@ -162,20 +167,20 @@ module _ (c : Source) (locals : List InScope) (i start at line n : ℕ) where
 -- ---- a call
 
 abbrev pub CallFails : Source → Option Meaning → Option Given → List Judgement → Spot → Breach → Type 0
-CallFails c None given js spot = Fails false spot.at 6
+CallFails c None given js spot = Fails false spot.at rules.Called
 CallFails c (Some (means.Library library)) given js spot =
-    Fails (fitted_of c library given js).kept (library_token library given spot) (library_rule library)
-CallFails c (Some (means.Function function)) given js spot = Fails (function_fit c function js).kept spot.at 19
-CallFails c (Some (means.Object _)) given js spot = Fails false spot.at 6
-CallFails c (Some means.Nothing) given js spot = Fails false spot.at 2
+    Fails (library_kept c library given js) (library_token library given spot.at) (library_rule library)
+CallFails c (Some (means.Function function)) given js spot = Fails (arguments_kept c function js) spot.at rules.Arguments
+CallFails c (Some (means.Object _)) given js spot = Fails false spot.at rules.Called
+CallFails c (Some means.Nothing) given js spot = Fails false spot.at rules.Declared
 
 pub exact-called : (c : Source) (m : Option Meaning) (given : Option Given) (js : List Judgement) (spot : Spot) →
     Exact (note_call c m given js spot) (CallFails c m given js spot)
 unfolding note_call
-exact-called c None given js spot = exact-unless false spot.at 6
+exact-called c None given js spot = exact-unless false spot.at rules.Called
 exact-called c (Some (means.Library library)) given js spot =
-    exact-unless (fitted_of c library given js).kept (library_token library given spot) (library_rule library)
+    exact-unless (library_kept c library given js) (library_token library given spot.at) (library_rule library)
 exact-called c (Some (means.Function function)) given js spot =
-    exact-unless (function_fit c function js).kept spot.at 19
-exact-called c (Some (means.Object _)) given js spot = exact-unless false spot.at 6
-exact-called c (Some means.Nothing) given js spot = exact-unless false spot.at 2
+    exact-unless (arguments_kept c function js) spot.at rules.Arguments
+exact-called c (Some (means.Object _)) given js spot = exact-unless false spot.at rules.Called
+exact-called c (Some means.Nothing) given js spot = exact-unless false spot.at rules.Declared

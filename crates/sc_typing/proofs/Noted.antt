@@ -1,13 +1,15 @@
 -- What is noted in reading order is exactly what is broken, and the first of it is the answer.
-use Rattle.std.proofs.Common.{◌≡◌, refl, sym, subst, ℕ, arith, Bool, true, false, ◌||◌, ◌&&◌, List, [], ◌∷◌, Some, None, ◌⊎◌, inl, inr}
+use Rattle.std.proofs.Common.{◌≡◌, refl, sym, subst, ℕ, arith, Bool, true, false, ◌||◌, ◌&&◌, List, [], ◌∷◌, Some, None}
+use Rattle.std.proofs.Common.{◌⊎◌, inl, inr}
 use Rattle.std.specs.Prelude.{nat_lt, nat_eq, if◌then◌else◌, Option}
 use Rattle.std.specs.List.{Contains}
 use Rattle.std.proofs.lemmas.Bool.Decides.{nat_tests}
 use Rattle.sc_tree.specs.Names.{Text}
 use Rattle.sc_tree.specs.PlainTree.{PlainTree}
 use Rattle.sc_typing.specs.declared.notes.Breach.{Breach}
+use Rattle.sc_typing.specs.Numbers.{rule_number}
 use Rattle.sc_typing.specs.Program.{source_of_tree, line_of}
-use Rattle.sc_typing.specs.ProgramNotes.{noted}
+use Rattle.sc_typing.proofs.ProgramNotes.{noted}
 use Rattle.sc_typing.specs.Broken.{Broken}
 use Rattle.sc_typing.specs.Answer.{comes_first, IsWellTyped, IsFirstBroken, earlier_of, least_of, first_noted}
 use Rattle.sc_typing.proofs.Exactly.{the_one}
@@ -43,26 +45,26 @@ before_turned : (a b i j : ℕ) → (nat_lt i a || (nat_eq i a && nat_lt j b)) �
 before_turned a b i j x = grind (arith, nat_tests)
 
 before-trans : (a b d : Breach) → Before a b → Before b d → Before a d
-before-trans a b d x y = before_both a.at a.rule b.at b.rule d.at d.rule x y
+before-trans a b d x y = before_both a.at (rule_number a.rule) b.at (rule_number b.rule) d.at (rule_number d.rule) x y
 
 module _ (a b : Breach) where
   earlier-left : Before (earlier_of a b) a
   earlier-left = go (comes_first b a) refl
     where
       go : (t : Bool) → comes_first b a ≡ t → Before (if t then b else a) a
-      go true e = before_turned a.at a.rule b.at b.rule e
-      go false e = before_itself a.at a.rule
+      go true e = before_turned a.at (rule_number a.rule) b.at (rule_number b.rule) e
+      go false e = before_itself a.at (rule_number a.rule)
 
   earlier-right : Before (earlier_of a b) b
   earlier-right = go (comes_first b a) refl
     where
       go : (t : Bool) → comes_first b a ≡ t → Before (if t then b else a) b
-      go true e = before_itself b.at b.rule
+      go true e = before_itself b.at (rule_number b.rule)
       go false e = e
 
 -- the least is not behind the first of the pairs
 least-start : (a : Breach) (more : List Breach) → Before (least_of a more) a
-least-start a [] = before_itself a.at a.rule
+least-start a [] = before_itself a.at (rule_number a.rule)
 least-start a (b ∷ more) =
     before-trans (least_of (earlier_of a b) more) (earlier_of a b) a (least-start (earlier_of a b) more)
     (earlier-left a b)
@@ -109,11 +111,11 @@ least-member a (b ∷ more) =
 
 module _ (tree : PlainTree) (names texts : List Text) where
   pub first_is_least : {b : Breach} → first_noted (noted tree names texts) ≡ Some b →
-      IsFirstBroken tree names texts b.rule (line_of tree b.at)
+      IsFirstBroken tree names texts (rule_number b.rule) (line_of tree b.at)
   first_is_least {b = b} e = go (noted tree names texts) refl e
     where
       found : (all : List Breach) → noted tree names texts ≡ all → Contains all b →
-          ((x : Breach) → Contains all x → Before b x) → IsFirstBroken tree names texts b.rule (line_of tree b.at)
+          ((x : Breach) → Contains all x → Before b x) → IsFirstBroken tree names texts (rule_number b.rule) (line_of tree b.at)
       found all same i before = record {
         first = b;
         broken = noted_is_broken tree names texts (subst (λ (l : List Breach). Contains l b) (sym same) i);
@@ -123,7 +125,7 @@ module _ (tree : PlainTree) (names texts : List Text) where
       }
 
       go : (all : List Breach) → noted tree names texts ≡ all → first_noted all ≡ Some b →
-          IsFirstBroken tree names texts b.rule (line_of tree b.at)
+          IsFirstBroken tree names texts (rule_number b.rule) (line_of tree b.at)
       go [] same f = absurd (let z : None ≡ Some b = f in cc)
       go (a ∷ more) same f =
           let l : least_of a more ≡ b = (let z : Some (least_of a more) ≡ Some b = f in cc) in
@@ -144,4 +146,4 @@ module _ (tree : PlainTree) (names texts : List Text) where
       go : (o : Option Breach) → first_noted (noted tree names texts) ≡ o →
           IsWellTyped tree names texts ⊎ ((rule : ℕ) × (line : ℕ) × IsFirstBroken tree names texts rule line)
       go None e = inl (none_is_well_typed e)
-      go (Some b) e = inr (b.rule, line_of tree b.at, first_is_least e)
+      go (Some b) e = inr ((rule_number b.rule), line_of tree b.at, first_is_least e)

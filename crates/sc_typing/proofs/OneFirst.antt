@@ -4,6 +4,7 @@ use Rattle.std.specs.Prelude.{nat_lt, nat_eq}
 use Rattle.std.proofs.lemmas.Bool.Decides.{nat_tests}
 use Rattle.sc_tree.specs.Names.{Text}
 use Rattle.sc_tree.specs.PlainTree.{PlainTree}
+use Rattle.sc_typing.specs.Numbers.{rule_number}
 use Rattle.sc_typing.specs.Program.{line_of}
 use Rattle.sc_typing.specs.Answer.{IsWellTyped, IsFirstBroken}
 
@@ -21,14 +22,14 @@ module _ (tree : PlainTree) (names texts : List Text) (rule line other_rule othe
   pub one-rule : rule ≡ other_rule
   one-rule =
       f.rule_is ∙
-      same_rule f.first.at f.first.rule g.first.at g.first.rule (f.least g.first g.broken) (g.least f.first f.broken) ∙
+      same_rule f.first.at (rule_number f.first.rule) g.first.at (rule_number g.first.rule) (f.least g.first g.broken) (g.least f.first f.broken) ∙
       sym g.rule_is
 
   pub one-line : line ≡ other_line
   one-line =
       f.line_is ∙
       ap (line_of tree)
-      (same_token f.first.at f.first.rule g.first.at g.first.rule (f.least g.first g.broken) (g.least f.first f.broken)) ∙
+      (same_token f.first.at (rule_number f.first.rule) g.first.at (rule_number g.first.rule) (f.least g.first g.broken) (g.least f.first f.broken)) ∙
       sym g.line_is
 
 pub broken-not-typed : (tree : PlainTree) (names texts : List Text) (rule line : ℕ) →

@@ -3,11 +3,15 @@ use Rattle.std.proofs.Common.{◌≡◌, refl, sym, subst, ℕ, Bool, true, fals
 use Rattle.sc_tree.specs.Plain.{Expression}
 use Rattle.sc_tree.specs.PlainStmt.{Declared, Statement, empty, declare, simple, split, return, break, continue}
 use Rattle.sc_typing.specs.declared.notes.Breach.{Breach}
+use Rattle.sc_typing.specs.declared.rule.Rule.{Rule}
+use Rattle.sc_typing.specs.declared.rule.Rule.TheVariants as rules
 use Rattle.sc_typing.specs.Scope.{Scope}
 use Rattle.sc_typing.specs.Rules
 use Rattle.sc_typing.specs.Statements.{Within}
-use Rattle.sc_typing.specs.StatementNotes.{note_split, split_kept, split_rule}
-use Rattle.sc_typing.specs.Broken.{breach, place, InLocals, Tests, Uses, StatementBreaks, BrokenBy, in_expression, in_part, used, tested, whole, judged_at}
+use Rattle.sc_typing.proofs.StatementNotes.{note_split, split_kept, split_rule}
+use Rattle.sc_typing.specs.BrokenExpressions.{breach}
+use Rattle.sc_typing.specs.StatementParts.{place, InLocals, Tests, Uses, used, tested, whole}
+use Rattle.sc_typing.specs.BrokenStatements.{StatementBreaks, BrokenBy, in_expression, in_part, judged_at}
 use Rattle.sc_typing.proofs.Exactly.{Fails, fails, Never, Either, exact-nothing, exact-unless, exact-then, exact-as}
 use Rattle.sc_typing.proofs.OperandsNoted.{Inside, Operand, Tested, OneFails, TwoFail, exact-one, exact-two}
 use Rattle.sc_typing.proofs.ExpressionsNoted.{exact-value}
@@ -37,12 +41,12 @@ module _ (w : Within) (looped : Bool) (from : ℕ) (s : Scope) where
       fro b (in_part i h) = elim i [ ]
 
   pub exact-break : (at : ℕ) → ExactBy w looped from s (break at)
-  exact-break at = exact-as to fro (exact-unless (Rules.rule_21 looped) at 21)
+  exact-break at = exact-as to fro (exact-unless (Rules.loop_kept looped) at rules.Loop)
     where
-      to : (b : Breach) → Fails (Rules.rule_21 looped) at 21 b → By w looped from s (break at) b
+      to : (b : Breach) → Fails (Rules.loop_kept looped) at rules.Loop b → By w looped from s (break at) b
       to b (fails f) = BrokenBy.here (StatementBreaks.break_outside f)
 
-      fro : (b : Breach) → By w looped from s (break at) b → Fails (Rules.rule_21 looped) at 21 b
+      fro : (b : Breach) → By w looped from s (break at) b → Fails (Rules.loop_kept looped) at rules.Loop b
       fro b (BrokenBy.here (StatementBreaks.break_outside f)) = fails f
       fro b (BrokenBy.here (StatementBreaks.test_no_scalar t f)) = elim t [ ]
       fro b (BrokenBy.here (StatementBreaks.void_used (tested t) f)) = elim t [ ]
@@ -50,12 +54,12 @@ module _ (w : Within) (looped : Bool) (from : ℕ) (s : Scope) where
       fro b (in_part i h) = elim i [ ]
 
   pub exact-continue : (at : ℕ) → ExactBy w looped from s (continue at)
-  exact-continue at = exact-as to fro (exact-unless (Rules.rule_21 looped) at 21)
+  exact-continue at = exact-as to fro (exact-unless (Rules.loop_kept looped) at rules.Loop)
     where
-      to : (b : Breach) → Fails (Rules.rule_21 looped) at 21 b → By w looped from s (continue at) b
+      to : (b : Breach) → Fails (Rules.loop_kept looped) at rules.Loop b → By w looped from s (continue at) b
       to b (fails f) = BrokenBy.here (StatementBreaks.continue_outside f)
 
-      fro : (b : Breach) → By w looped from s (continue at) b → Fails (Rules.rule_21 looped) at 21 b
+      fro : (b : Breach) → By w looped from s (continue at) b → Fails (Rules.loop_kept looped) at rules.Loop b
       fro b (BrokenBy.here (StatementBreaks.continue_outside f)) = fails f
       fro b (BrokenBy.here (StatementBreaks.test_no_scalar t f)) = elim t [ ]
       fro b (BrokenBy.here (StatementBreaks.void_used (tested t) f)) = elim t [ ]
@@ -76,12 +80,12 @@ module _ (w : Within) (looped : Bool) (from : ℕ) (s : Scope) where
       fro b (in_part i h) = elim i [ ]
 
   exact-return_nothing : (at line : ℕ) → ExactBy w looped from s (return None at line)
-  exact-return_nothing at line = exact-as to fro (exact-unless (Rules.rule_20 w.result None) at 20)
+  exact-return_nothing at line = exact-as to fro (exact-unless (Rules.return_kept w.result None) at rules.Return)
     where
-      to : (b : Breach) → Fails (Rules.rule_20 w.result None) at 20 b → By w looped from s (return None at line) b
+      to : (b : Breach) → Fails (Rules.return_kept w.result None) at rules.Return b → By w looped from s (return None at line) b
       to b (fails f) = BrokenBy.here (StatementBreaks.return_without f)
 
-      fro : (b : Breach) → By w looped from s (return None at line) b → Fails (Rules.rule_20 w.result None) at 20 b
+      fro : (b : Breach) → By w looped from s (return None at line) b → Fails (Rules.return_kept w.result None) at rules.Return b
       fro b (BrokenBy.here (StatementBreaks.return_without f)) = fails f
       fro b (BrokenBy.here (StatementBreaks.test_no_scalar t f)) = elim t [ ]
       fro b (BrokenBy.here (StatementBreaks.void_used (tested t) f)) = elim t [ ]
@@ -91,12 +95,12 @@ module _ (w : Within) (looped : Bool) (from : ℕ) (s : Scope) where
   abbrev Returned : Expression → (at : ℕ) → Breach → Type 0
   Returned e at =
       Either (Inside w.source s.locals 0 e)
-      (OneFails (judged_at w s e) (Rules.rule_20 w.result (Some (judged_at w s e))) at 20)
+      (OneFails (judged_at w s e) (Rules.return_kept w.result (Some (judged_at w s e))) at rules.Return)
 
   exact-return_value : (e : Expression) (at line : ℕ) → ExactBy w looped from s (return (Some e) at line)
   exact-return_value e at line =
       exact-as to fro (exact-then (exact-value w.source s.locals 0 e)
-      (exact-one (judged_at w s e) (Rules.rule_20 w.result (Some (judged_at w s e))) at 20))
+      (exact-one (judged_at w s e) (Rules.return_kept w.result (Some (judged_at w s e))) at rules.Return))
     where
       to : (b : Breach) → Returned e at b → By w looped from s (return (Some e) at line) b
       to b (inl h) = in_expression (used Uses.returned) h

@@ -1,19 +1,28 @@
 -- What is noted of a statement is exactly what it breaks, or an expression or a statement within it.
 use Rattle.std.proofs.Common.{ℕ, Bool, true, Option, Some, None, inl, inr}
 use Rattle.sc_tree.specs.Plain.{Expression, name}
-use Rattle.sc_tree.specs.PlainStmt.{Statement, block, empty, declare, simple, split, choose, choose_else, while_, do_while, for_, for_mine, return, break, continue, Statements, no_statements, statements, arm, Arms, no_arms, arms}
+use Rattle.sc_tree.specs.PlainStmt.{Statement, block, empty, declare, simple, split, choose, choose_else, while_}
+use Rattle.sc_tree.specs.PlainStmt.{do_while, for_, for_mine, return, break, continue, Statements, no_statements}
+use Rattle.sc_tree.specs.PlainStmt.{statements, arm, Arms, no_arms, arms}
 use Rattle.sc_typing.specs.declared.notes.Breach.{Breach}
+use Rattle.sc_typing.specs.declared.rule.Rule.{Rule}
+use Rattle.sc_typing.specs.declared.rule.Rule.TheVariants as rules
 use Rattle.sc_typing.specs.Scope.{Scope, depth}
 use Rattle.sc_typing.specs.Rules
-use Rattle.sc_typing.specs.Typing.{named}
+use Rattle.sc_typing.specs.Naming.{named}
 use Rattle.sc_typing.specs.Statements.{Within, after, after_arms}
-use Rattle.sc_typing.specs.StatementNotes.{spot_at, note_turns, note_bound, note_all, note_arms}
-use Rattle.sc_typing.specs.Broken.{Breaks, IsPart, Tests, Uses, StatementBreaks, BrokenBy, in_expression, in_part, used, tested, judged_at}
+use Rattle.sc_typing.specs.Known.{spot_at}
+use Rattle.sc_typing.proofs.StatementNotes.{note_turns, note_bound, note_all, note_arms}
+use Rattle.sc_typing.specs.BrokenExpressions.{Breaks}
+use Rattle.sc_typing.specs.StatementParts.{IsPart, Tests, Uses, used, tested}
+use Rattle.sc_typing.specs.BrokenStatements.{StatementBreaks, BrokenBy, in_expression, in_part, judged_at}
 use Rattle.sc_typing.proofs.Exactly.{Exact, Fails, fails, Either, exact-unless, exact-then, exact-as}
 use Rattle.sc_typing.proofs.OperandsNoted.{Inside, Tested, OneFails, exact-one}
 use Rattle.sc_typing.proofs.NamesNoted.{exact-name_alone}
 use Rattle.sc_typing.proofs.ExpressionsNoted.{exact-value}
-use Rattle.sc_typing.proofs.LocalsNoted.{By, ExactBy, UsedIf, TestedIf, exact-test, exact-used_if, exact-test_if, SomeStatement, some_statement, exact-no_statements, exact-next_statement, SomeArm, some_arm, exact-no_arms, exact-next_arm}
+use Rattle.sc_typing.proofs.LocalsNoted.{By, ExactBy, UsedIf, TestedIf, exact-test, exact-used_if, exact-test_if}
+use Rattle.sc_typing.proofs.LocalsNoted.{SomeStatement, some_statement, exact-no_statements, exact-next_statement}
+use Rattle.sc_typing.proofs.LocalsNoted.{SomeArm, some_arm, exact-no_arms, exact-next_arm}
 use Rattle.sc_typing.proofs.SimpleNoted as alone
 
 module _ (w : Within) (looped : Bool) (from : ℕ) (s : Scope) where
@@ -149,26 +158,26 @@ module _ (w : Within) (looped : Bool) (from : ℕ) (s : Scope) where
   NameOfTurns n at line b = Breaks w.source s.locals 0 at at line (name n) b
 
   abbrev kept_turns : (n at line : ℕ) → Bool
-  kept_turns n at line = Rules.rule_24_name (named w.source s.locals 0 n (spot_at at line))
+  kept_turns n at line = Rules.turns_kept (named w.source s.locals 0 n (spot_at at line))
 
   abbrev Turns : (n at line : ℕ) → Breach → Type 0
-  Turns n at line = Either (NameOfTurns n at line) (Fails (kept_turns n at line) at 24)
+  Turns n at line = Either (NameOfTurns n at line) (Fails (kept_turns n at line) at rules.Use)
 
   exact-turns : (n at line : ℕ) → Exact (note_turns w.source s n at line) (Turns n at line)
   unfolding note_turns
   exact-turns n at line =
-      exact-then (exact-name_alone w.source s.locals 0 at at line n) (exact-unless (kept_turns n at line) at 24)
+      exact-then (exact-name_alone w.source s.locals 0 at at line n) (exact-unless (kept_turns n at line) at rules.Use)
 
   abbrev Bound : Expression → Breach → Type 0
   Bound e =
       Either (Inside w.source s.locals 0 e)
-      (OneFails (judged_at w s e) (Rules.rule_24_bound (judged_at w s e).known) (judged_at w s e).start 24)
+      (OneFails (judged_at w s e) (Rules.bound_kept (judged_at w s e).known) (judged_at w s e).start rules.Use)
 
   exact-bound : (e : Expression) → Exact (note_bound w.source s e) (Bound e)
   unfolding note_bound
   exact-bound e =
       exact-then (exact-value w.source s.locals 0 e)
-      (exact-one (judged_at w s e) (Rules.rule_24_bound (judged_at w s e).known) (judged_at w s e).start 24)
+      (exact-one (judged_at w s e) (Rules.bound_kept (judged_at w s e).known) (judged_at w s e).start rules.Use)
 
   abbrev Mine : (n : ℕ) → Expression → Statement → (at line : ℕ) → Breach → Type 0
   Mine n bound body at line = Either (Either (Turns n at line) (Bound bound)) (By w true from s body)

@@ -1,10 +1,15 @@
 -- What is known of an expression that has a type, and when it fits another type.
 use Rattle.std.specs.Prelude.{ℕ, Bool, true, false, ◌&&◌, ◌||◌, Option, Some, None, List, [], if◌then◌else◌}
+use Rattle.std.specs.Option.{option_map}
 use Rattle.sc_base.specs.declared.shape.Ty.{Ty}
 use Rattle.sc_tree.specs.PlainTyped.{TypedExpression, typed_expression, TypedForm, null, convert}
 use Rattle.sc_typing.specs.declared.known.Spot.{Spot}
 use Rattle.sc_typing.specs.declared.places.PlaceKind.{PlaceKind}
 use Rattle.sc_typing.specs.Types.{is_pointer, same_type, widens, int}
+
+-- one token
+abbrev pub spot_at : (at line : ℕ) → Spot
+spot_at at line = record { start = at; at = at; line = line }
 
 -- an expression with its type, and whether it is `NULL` or the number 0
 pub record Valued : Type 0 where
@@ -15,7 +20,12 @@ pub record Valued : Type 0 where
 
 abbrev pub valued : TypedForm → Ty → (is_null : Bool) → Spot → Valued
 valued form ty is_null spot =
-    record { expression = typed_expression form ty spot.start spot.at spot.line; ty = ty; is_null = is_null; spot = spot }
+    record {
+      expression = typed_expression form ty spot.start spot.at spot.line;
+      ty = ty;
+      is_null = is_null;
+      spot = spot;
+    }
 
 abbrev pub expression_of : Valued → TypedExpression
 expression_of v = v.expression
@@ -56,6 +66,14 @@ only kept (Some v) = if v.ty.void then None else if kept then Some v else None
 abbrev pub used : Judgement → Option Valued
 used j = only true j.known
 
+-- whether it has a value that can be used
+abbrev pub has_value : Option Valued → Bool
+has_value None = false
+has_value (Some v) = if v.ty.void then false else true
+
+abbrev pub is_used : Judgement → Bool
+is_used j = has_value j.known
+
 -- what stands for the expression in the tree; where it has no type a rule is broken, and the tree is not asked for
 abbrev pub standing_in : ℕ → Option Valued → TypedExpression
 standing_in start (Some v) = expression_of v
@@ -63,3 +81,10 @@ standing_in start None = typed_expression null int start start 0
 
 abbrev pub expression_for : Judgement → TypedExpression
 expression_for j = standing_in j.start j.known
+
+-- the value as one of the type, where it has one itself
+abbrev pub met_known : Option Valued → Ty → Option Valued
+met_known known ty = option_map (λ v. meets v ty) known
+
+abbrev pub met_expression : Judgement → Ty → TypedExpression
+met_expression j ty = standing_in j.start (met_known j.known ty)

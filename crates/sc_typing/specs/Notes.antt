@@ -1,9 +1,10 @@
 -- Broken rules in the order in which a reader meets them.
 use Rattle.std.specs.Prelude.{ℕ, Bool, true, false, List, [], ◌∷◌, ◌++◌, ◌≡◌, Result, Ok, Err, if◌then◌else◌}
 use Rattle.sc_typing.specs.declared.notes.Breach.{Breach}
+use Rattle.sc_typing.specs.declared.rule.Rule.{Rule}
 
 -- the rule is broken at the token, unless it is kept
-unfoldable pub unless : (kept : Bool) → (at rule : ℕ) → List Breach → List Breach
+unfoldable pub unless : (kept : Bool) → (at : ℕ) → Rule → List Breach → List Breach
 unless kept at rule broken = if kept then broken else broken ++ record { at = at; rule = rule } ∷ []
 
 -- what was returned, seen by `view`, is this, and the notes are these, unless memory ran out

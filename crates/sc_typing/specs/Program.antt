@@ -72,7 +72,14 @@ typed_param p = record { name = p.name; ty = p.ty; at = p.at }
 
 unfoldable pub typed_function : Source → PlainFunction → PlainTypedFunction
 typed_function c f =
-    record { name = f.name; result = f.result; params = map typed_param f.params; body = typed_body c f f.body; at = f.at; line = f.line }
+    record {
+      name = f.name;
+      result = f.result;
+      params = map typed_param f.params;
+      body = typed_body c f f.body;
+      at = f.at;
+      line = f.line;
+    }
 
 -- the text of a function's name
 abbrev pub name_text : List Text → ℕ → Text
@@ -84,7 +91,17 @@ typed_texts c = c.texts ++ map (λ d. name_text c.names d.name) c.definitions
 
 abbrev pub typed_in : Source → PlainTree → PlainTypedTree
 typed_in c tree =
-    record { objects = tree.objects; functions = map (typed_function c) tree.functions; lines = tree.lines; last = tree.last; texts = typed_texts c }
+    record {
+      objects = tree.objects;
+      functions = map (typed_function c) tree.functions;
+      lines = tree.lines;
+      last = tree.last;
+      texts = typed_texts c;
+    }
+
+-- the token of `splitc_main`, or the last one
+abbrev pub main_token : (last : ℕ) → Option Definition → ℕ
+main_token last d = option_map_or (λ d. d.at) d last
 
 -- the typed tree of a well-typed source
 abbrev pub typed_of : PlainTree → (names texts : List Text) → PlainTypedTree

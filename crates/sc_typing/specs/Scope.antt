@@ -1,5 +1,6 @@
 -- The locals in scope, those of inner blocks last, and how many locals the function has so far.
-use Rattle.std.specs.Prelude.{ℕ, ◌+◌, Bool, Option, Some, None, List, [], ◌∷◌, ◌++◌, length, take, drop, reverse, find, nat_eq}
+use Rattle.std.specs.Prelude.{ℕ, ◌+◌, Bool, Option, Some, None, List, [], ◌∷◌, ◌++◌, length, take, drop, reverse, find}
+use Rattle.std.specs.Prelude.{nat_eq}
 use Rattle.std.specs.List.{list_any}
 use Rattle.sc_base.specs.declared.shape.Ty.{Ty}
 use Rattle.sc_typing.specs.declared.scope.InScope.{InScope}

@@ -1,7 +1,8 @@
 -- What the names at file scope mean: the declared objects and function definitions, and the functions of the
 -- library of Split-C (Culler and others, 1995).
-use Rattle.std.specs.Prelude.{ℕ, suc, ◌+◌, ◌==◌, ◌||◌, ◌&&◌, Bool, true, false, Option, Some, None, List, [], ◌∷◌, length, slice_get, find, nat_eq, nat_lt, codes, position, if◌then◌else◌}
-use Rattle.std.specs.Option.{option_and_then, option_map_or}
+use Rattle.std.specs.Prelude.{ℕ, suc, ◌+◌, ◌==◌, ◌||◌, ◌&&◌, Bool, true, false, Option, Some, None, List, [], ◌∷◌}
+use Rattle.std.specs.Prelude.{length, slice_get, find, nat_eq, nat_lt, codes, position, if◌then◌else◌}
+use Rattle.std.specs.Option.{option_map, option_and_then, option_map_or}
 use Rattle.std.specs.Str.{bytes_eq}
 use Rattle.sc_base.specs.declared.shape.Star.{Star}
 use Rattle.sc_base.specs.declared.shape.Star.TheVariants.{Local, Global, Spread}
@@ -68,7 +69,9 @@ declared_first source None None = means.Nothing
 declared_first source (Some object) None = means.Object object
 declared_first source None (Some function) = means.Function function
 declared_first source (Some object) (Some function) =
-    if nat_lt (object_token source object) (definition_token source function) then means.Object object else means.Function function
+    if nat_lt (object_token source object) (definition_token source function)
+    then means.Object object
+    else means.Function function
 
 abbrev pub library_first : Option Library → Meaning → Meaning
 library_first (Some library) meaning = means.Library library
@@ -77,17 +80,25 @@ library_first None meaning = meaning
 -- what a name that no local has means
 unfoldable pub meaning_of : Source → ℕ → Meaning
 meaning_of source name =
-    library_first (library_named source name) (declared_first source (object_called source name) (definition_called source name))
+    library_first (library_named source name)
+    (declared_first source (object_called source name) (definition_called source name))
 
--- how many `%d` the rest of a format has, each `%` of it being followed by `d` or `%`
-abbrev pub directives : (after_percent : Bool) → (count : ℕ) → Text → Option ℕ
-directives after count [] = if after then None else Some count
-directives after count (b ∷ more) =
-    if after then (if b == 100 then directives false (count + 1) more else if b == 37 then directives false count more else None)
-    else directives (b == 37) count more
+-- How many `%d` a format has, if in pairs taken from the left each `%` is followed by `d` or `%`. The second is that
+-- of what stands behind such a `%`.
+abbrev mutual
+  pub directives : Text → Option ℕ
+  directives [] = Some 0
+  directives (b ∷ more) = if b == 37 then directives_behind more else directives more
+
+  pub directives_behind : Text → Option ℕ
+  directives_behind [] = None
+  directives_behind (b ∷ more) =
+      if b == 100 then option_map (λ count. count + 1) (directives more)
+      else if b == 37 then directives more
+      else None
 
 unfoldable pub directives_of : Source → ℕ → Option ℕ
-directives_of source format = option_and_then (directives false 0) (slice_get source.texts format)
+directives_of source format = option_and_then directives (slice_get source.texts format)
 
 abbrev pub has_bounds : List Bound → Bool
 has_bounds [] = false
@@ -106,7 +117,8 @@ dimensions object = length object.left + length object.right
 unfoldable pub has_its_indices : Shape → ℕ → Bool
 has_its_indices object taken =
     (taken == dimensions object)
-    || ((taken + 1 == dimensions object) && (if object.spread then has_bounds object.right || (dimensions object == 1) else true))
+    || ((taken + 1 == dimensions object)
+    && (if object.spread then has_bounds object.right || (dimensions object == 1) else true))
 
 -- its type with so many indices
 unfoldable pub object_type : Shape → ℕ → Ty

@@ -1,9 +1,10 @@
 -- Typed statements, and the locals that are in scope behind a statement.
 use Rattle.std.specs.Prelude.{ℕ, Bool, Option, Some, None, List, [], ◌∷◌, if◌then◌else◌}
-use Rattle.std.specs.Option.{option_map}
 use Rattle.sc_base.specs.declared.shape.Ty.{Ty}
 use Rattle.sc_tree.specs.Plain.{Expression}
-use Rattle.sc_tree.specs.PlainStmt.{Declared, Statement, block, empty, declare, simple, split, choose, choose_else, while_, do_while, for_, for_mine, return, break, continue, Statements, no_statements, statements, Arm, arm, Arms, no_arms, arms}
+use Rattle.sc_tree.specs.PlainStmt.{Declared, Statement, block, empty, declare, simple, split, choose, choose_else}
+use Rattle.sc_tree.specs.PlainStmt.{while_, do_while, for_, for_mine, return, break, continue, Statements}
+use Rattle.sc_tree.specs.PlainStmt.{no_statements, statements, Arm, arm, Arms, no_arms, arms}
 use Rattle.sc_tree.specs.PlainTyped.{TypedExpression}
 use Rattle.sc_tree.specs.PlainTypedStmt as typed
 use Rattle.sc_tree.specs.PlainTypedStmt.{TypedDeclared, TypedStatement, TypedArm}
@@ -12,7 +13,7 @@ use Rattle.sc_tree.specs.declared.typed.Named.{Named}
 use Rattle.sc_tree.specs.declared.typed.Named.TheVariants as named_as
 use Rattle.sc_typing.specs.declared.places.PlaceKind.{PlaceKind}
 use Rattle.sc_typing.specs.declared.scope.InScope.{InScope}
-use Rattle.sc_typing.specs.Known.{Valued, meets, Judgement, standing_in, expression_for}
+use Rattle.sc_typing.specs.Known.{Valued, Judgement, met_expression, expression_for}
 use Rattle.sc_typing.specs.Places.{may_be_global}
 use Rattle.sc_typing.specs.Scope.{Scope, innermost, depth, with_declared, left_block}
 use Rattle.sc_typing.specs.Source.{Source}
@@ -55,13 +56,6 @@ abbrev mutual
   pub after_arms : Scope → Arms → Scope
   after_arms s no_arms = s
   after_arms s (arms (arm test body) more) = after_arms (after s body) more
-
--- the value as one of the type, where it has one itself
-abbrev pub met_known : Option Valued → Ty → Option Valued
-met_known known ty = option_map (λ v. meets v ty) known
-
-abbrev pub met_expression : Judgement → Ty → TypedExpression
-met_expression j ty = standing_in j.start (met_known j.known ty)
 
 -- the typed expression in the scope
 unfoldable pub typed_value : Source → Scope → Expression → TypedExpression
@@ -118,9 +112,11 @@ abbrev mutual
   typed_statement w s (do_while body test) =
       typed.do_while (typed_statement w s body) (typed_value w.source (after s body) test)
   typed_statement w s (for_ first test next body) =
-      typed.for_ (typed_if w.source s first) (typed_if w.source s test) (typed_if w.source s next) (typed_statement w s body)
+      typed.for_ (typed_if w.source s first) (typed_if w.source s test) (typed_if w.source s next)
+      (typed_statement w s body)
   typed_statement w s (for_mine n bound body at line) =
-      typed.for_mine (local_number (innermost n s.locals)) (typed_value w.source s bound) (typed_statement w s body) at line
+      typed.for_mine (local_number (innermost n s.locals)) (typed_value w.source s bound) (typed_statement w s body)
+      at line
   typed_statement w s (return e at line) = typed.return (typed_result w s e) at line
   typed_statement w s (break at) = typed.break at
   typed_statement w s (continue at) = typed.continue at

@@ -1,107 +1,27 @@
 -- Expressions judged from their parts: the typed expression, where no rule is broken in it. `locals` are those in
 -- scope, and `indices` is how many indices stand directly behind the expression.
-use Rattle.std.specs.Prelude.{ℕ, ◌+◌, Bool, true, false, ◌&&◌, Option, Some, None, List, [], ◌∷◌, min, slice_get, if◌then◌else◌}
+use Rattle.std.specs.Prelude.{ℕ, true, false, Option, Some, None, List, [], ◌∷◌, if◌then◌else◌}
 use Rattle.std.specs.Option.{option_map}
-use Rattle.sc_base.specs.declared.shape.Star.TheVariants as star
-use Rattle.sc_base.specs.declared.shape.Shape.{Shape}
-use Rattle.sc_tree.specs.Plain.{Expression, expression, Kind, number, null, my_proc, procs, size_int, name, format, chain, both, either, choice, assign, step, plus, prefix, deref, address, cast, postfix, call, Expressions, no_expressions, expressions, Link, link, Links, no_links, links, Tail, index, up, down, Tails, no_tails, tails}
+use Rattle.sc_tree.specs.Plain.{Expression, expression, Kind, number, null, my_proc, procs, size_int, name, format}
+use Rattle.sc_tree.specs.Plain.{chain, both, either, choice, assign, step, plus, prefix, deref, address, cast, postfix}
+use Rattle.sc_tree.specs.Plain.{call, Expressions, no_expressions, expressions, link, Links, no_links, links, Tail}
+use Rattle.sc_tree.specs.Plain.{index, up, down, Tails, no_tails, tails}
 use Rattle.sc_tree.specs.PlainTyped as typed
 use Rattle.sc_tree.specs.PlainTyped.{TypedForm, TypedExpression}
 use Rattle.sc_tree.specs.ViewTyped.{typed_expressions_of}
-use Rattle.sc_tree.specs.declared.typed.Named.TheVariants as named_as
 use Rattle.sc_typing.specs.declared.calls.Given.{Given}
 use Rattle.sc_typing.specs.declared.file.Meaning.{Meaning}
-use Rattle.sc_typing.specs.declared.file.Meaning.TheVariants as means
-use Rattle.sc_typing.specs.declared.library.Library.TheVariants as lib
 use Rattle.sc_typing.specs.declared.known.Spot.{Spot}
 use Rattle.sc_typing.specs.declared.places.PlaceKind.TheVariants as place
 use Rattle.sc_typing.specs.declared.scope.InScope.{InScope}
-use Rattle.sc_typing.specs.Types.{int, pointer}
-use Rattle.sc_typing.specs.Known.{Valued, valued, Judgement, judged}
-use Rattle.sc_typing.specs.Scope.{innermost}
-use Rattle.sc_typing.specs.Source.{Source, meaning_of, dimensions, has_its_indices, object_type}
-use Rattle.sc_typing.specs.Places.{object_place}
-use Rattle.sc_typing.specs.Operators.{int_value, number_of, plus_of, prefix_of, deref_of, address_of, cast_of, step_of, set_of, choice_of, Gathered, gather, Linked, begin_chain, join, chain_value, Tailing, begin_tails, index_tail, step_tail, postfix_value}
+use Rattle.sc_typing.specs.Known.{Judgement, judged}
+use Rattle.sc_typing.specs.Source.{Source}
+use Rattle.sc_typing.specs.Operators.{int_value, number_of, plus_of, prefix_of, deref_of, address_of, cast_of, step_of}
+use Rattle.sc_typing.specs.Operators.{set_of, choice_of, Gathered, gather}
+use Rattle.sc_typing.specs.Chains.{Linked, begin_chain, join, chain_value}
+use Rattle.sc_typing.specs.Tails.{Tailing, begin_tails, index_tail, step_tail, postfix_value}
 use Rattle.sc_typing.specs.Calls.{call_of}
-
--- An object stands with as many of its indices as it may.
-abbrev pub object_value : (o taken : ℕ) → Shape → Spot → Valued
-object_value o taken object spot =
-    valued (typed.name (named_as.Object o)) (object_type object taken) false spot
-
-abbrev pub object_if : Bool → Valued → Option Valued
-object_if kept v = if kept then Some v else None
-
-abbrev pub object_with : (o taken : ℕ) → Shape → Spot → Judgement
-object_with o taken object spot =
-    record {
-      start = spot.start;
-      place = object_place object taken;
-      taken = taken;
-      known = object_if (has_its_indices object taken) (object_value o taken object spot);
-    }
-
-abbrev pub object_named : (o indices : ℕ) → Option Shape → Spot → Judgement
-object_named o indices None spot = judged spot place.Unknown None
-object_named o indices (Some object) spot = object_with o (min indices (dimensions object)) object spot
-
-abbrev pub local_value : InScope → Spot → Valued
-local_value l spot = valued (typed.name (named_as.Local l.number)) l.ty false spot
-
--- what a name means that no local has
-abbrev pub meaning_named : Source → (indices : ℕ) → Meaning → Spot → Judgement
-meaning_named c indices (means.Object o) spot = object_named o indices (slice_get c.objects o) spot
-meaning_named c indices _ spot = judged spot place.Unknown None
-
-abbrev pub name_in : Source → (indices n : ℕ) → Spot → Option InScope → Judgement
-name_in c indices n spot (Some l) = judged spot place.Local (Some (local_value l spot))
-name_in c indices n spot None = meaning_named c indices (meaning_of c n) spot
-
-unfoldable pub named : Source → List InScope → (indices n : ℕ) → Spot → Judgement
-named c locals indices n spot = name_in c indices n spot (innermost n locals)
-
-abbrev pub constant : TypedForm → Spot → Judgement
-constant form spot = judged spot place.NoPlace (Some (int_value form spot))
-
-abbrev pub null_constant : Spot → Judgement
-null_constant spot = judged spot place.NoPlace (Some (valued typed.null (pointer int star.Local) true spot))
-
-abbrev pub leading : Tails → ℕ
-leading no_tails = 0
-leading (tails (index _ _ _) more) = leading more + 1
-leading (tails _ more) = 0
-
-abbrev pub is_printf : Meaning → Bool
-is_printf (means.Library lib.Printf) = true
-is_printf _ = false
-
--- what a called name means, where no local has it
-abbrev pub unless_local : Source → ℕ → Option InScope → Option Meaning
-unless_local c n (Some _) = None
-unless_local c n None = Some (meaning_of c n)
-
-unfoldable pub called_meaning : Source → List InScope → ℕ → Option Meaning
-called_meaning c locals n = unless_local c n (innermost n locals)
-
--- whether the call is one of `printf`, whose first argument is a format
-abbrev pub printing : Option Meaning → Bool
-printing None = false
-printing (Some meaning) = is_printf meaning
-
-abbrev pub given_in : Expression → Option Given
-given_in (expression (format f) start at line) = Some (record { format = f; at = at })
-given_in (expression _ start at line) = None
-
-abbrev pub first_given : Expressions → Option Given
-first_given no_expressions = None
-first_given (expressions e _) = given_in e
-
-abbrev pub given_if : Bool → Option Given → Option Given
-given_if format_first given = if format_first then given else None
-
--- the format that the call prints, if it is one of `printf` whose first argument is a format
-abbrev pub format_given : Option Meaning → Expressions → Option Given
-format_given meaning args = given_if (printing meaning) (first_given args)
+use Rattle.sc_typing.specs.Naming.{named, constant, null_constant, leading, called_meaning, format_given}
 
 abbrev pub nothing_gathered : Gathered
 nothing_gathered = record { all = []; whole = true }
@@ -127,7 +47,8 @@ call_judged c meaning args js spot = call_of c meaning (format_given meaning arg
 
 abbrev mutual
   pub judge : Source → List InScope → (indices : ℕ) → Expression → Judgement
-  judge c locals indices (expression k start at line) = judge_kind c locals indices k (record { start = start; at = at; line = line })
+  judge c locals indices (expression k start at line) =
+      judge_kind c locals indices k (record { start = start; at = at; line = line })
 
   pub judge_kind : Source → List InScope → (indices : ℕ) → Kind → Spot → Judgement
   judge_kind c locals indices (number n) spot = number_of n spot
@@ -137,12 +58,16 @@ abbrev mutual
   judge_kind c locals indices size_int spot = constant typed.size_int spot
   judge_kind c locals indices (name n) spot = named c locals indices n spot
   judge_kind c locals indices (format _) spot = judged spot place.NoPlace None
-  judge_kind c locals indices (chain first rest) spot = chained spot (judge_links c locals (begin_chain (judge c locals 0 first)) rest)
-  judge_kind c locals indices (both all) spot = gathered_value both_form spot (judge_operands c locals nothing_gathered all)
-  judge_kind c locals indices (either all) spot = gathered_value either_form spot (judge_operands c locals nothing_gathered all)
+  judge_kind c locals indices (chain first rest) spot =
+      chained spot (judge_links c locals (begin_chain (judge c locals 0 first)) rest)
+  judge_kind c locals indices (both all) spot =
+      gathered_value both_form spot (judge_operands c locals nothing_gathered all)
+  judge_kind c locals indices (either all) spot =
+      gathered_value either_form spot (judge_operands c locals nothing_gathered all)
   judge_kind c locals indices (choice test on off) spot =
       choice_of (judge c locals 0 test) (judge c locals 0 on) (judge c locals 0 off) spot
-  judge_kind c locals indices (assign op left right) spot = set_of op (judge c locals 0 left) (judge c locals 0 right) spot
+  judge_kind c locals indices (assign op left right) spot =
+      set_of op (judge c locals 0 left) (judge c locals 0 right) spot
   judge_kind c locals indices (step is_up place) spot = step_of is_up (judge c locals 0 place) spot
   judge_kind c locals indices (plus e) spot = plus_of (judge c locals 0 e) spot
   judge_kind c locals indices (prefix op e) spot = prefix_of op (judge c locals 0 e) spot
@@ -152,7 +77,8 @@ abbrev mutual
   judge_kind c locals indices (postfix first rest) spot =
       tailed spot (judge_tails c locals (begin_tails (judge c locals (leading rest) first)) rest)
   judge_kind c locals indices (call n args) spot =
-      call_judged c (called_meaning c locals n) args (judge_behind c locals (format_given (called_meaning c locals n) args) args) spot
+      call_judged c (called_meaning c locals n) args
+      (judge_behind c locals (format_given (called_meaning c locals n) args) args) spot
 
   -- the chain from the left so far, joined to the links that follow
   pub judge_links : Source → List InScope → Option Linked → Links → Option Linked

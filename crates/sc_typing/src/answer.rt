@@ -32,10 +32,11 @@ impl From<AllocError> for CheckError {
     }
 }
 
+/// Whether the first pair has the lesser token, or there the rule with the lesser number.
 pub fn comes_first(a: Breach, b: Breach) -> bool
     ensures { result ≡ answer.comes_first a b }
 {
-    a.at < b.at || (a.at == b.at && a.rule < b.rule)
+    a.at < b.at || (a.at == b.at && a.rule.number() < b.rule.number())
 }
 
 /// The noted pair of the least token, and there of the least rule.
@@ -65,6 +66,7 @@ pub fn line_of(tree: &Tree, at: u32) -> u32
     }
 }
 
+/// Adds a copy of the text behind the others. The error is want of memory.
 pub fn push_copy(alloc: Global, texts: &mut Vec<Bytes>, text: &[u8]) -> Result<(), AllocError>
     ensures { IfOk result (λ _. texts.new.items ≡ texts.old.items ++ text.now ∷ []) }
 {
@@ -73,6 +75,7 @@ pub fn push_copy(alloc: Global, texts: &mut Vec<Bytes>, text: &[u8]) -> Result<(
     Ok(())
 }
 
+/// Adds copies of the texts behind the others. The error is want of memory.
 pub fn push_copies(alloc: Global, texts: &mut Vec<Bytes>, more: &[Bytes]) -> Result<(), AllocError>
     ensures { IfOk result (λ _. texts.new.items ≡ texts.old.items ++ more.now) }
 {
@@ -82,6 +85,7 @@ pub fn push_copies(alloc: Global, texts: &mut Vec<Bytes>, more: &[Bytes]) -> Res
     Ok(())
 }
 
+/// Adds the names of the definitions behind the others. The error is want of memory.
 pub fn push_names(
     alloc: Global,
     texts: &mut Vec<Bytes>,
@@ -96,6 +100,7 @@ pub fn push_names(
     Ok(())
 }
 
+/// The text of the name, which is empty where there is no name of this number.
 pub fn name_text(names: &Names, name: u32) -> &[u8]
     ensures { result.now ≡ program.name_text names.now name }
 {

@@ -1,8 +1,9 @@
 //! Chains of operands: which rule speaks of their links.
 
 ghost use Rattle.std.specs.Prelude.{◌≡◌};
-ghost use Rattle.sc_typing.specs.Operators as operators;
+ghost use Rattle.sc_typing.specs.Chains as chains;
 
+use crate::rule::Rule;
 use sc_base::Binary;
 
 /// How tightly an operator binds, as far as the rules differ.
@@ -13,8 +14,9 @@ pub enum Level {
     Others,
 }
 
+/// The level of the operator.
 pub fn level_of(op: Binary) -> Level
-    ensures { result ≡ operators.level_of op }
+    ensures { result ≡ chains.level_of op }
 {
     match op {
         Binary::Add | Binary::Sub => Level::Sums,
@@ -23,12 +25,13 @@ pub fn level_of(op: Binary) -> Level
     }
 }
 
-pub fn link_rule(level: Level) -> u32
-    ensures { result ≡ operators.link_rule level }
+/// The rule on the operands of a link of this level.
+pub fn link_rule(level: Level) -> Rule
+    ensures { result ≡ chains.link_rule level }
 {
     match level {
-        Level::Sums => 11,
-        Level::Equalities => 10,
-        Level::Others => 9,
+        Level::Sums => Rule::Sum,
+        Level::Equalities => Rule::Comparison,
+        Level::Others => Rule::Ints,
     }
 }

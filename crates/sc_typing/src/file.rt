@@ -1,6 +1,6 @@
 //! What the names at file scope mean.
 
-ghost use Rattle.std.specs.Prelude.{◌≡◌, false, IfOk};
+ghost use Rattle.std.specs.Prelude.{◌≡◌, IfOk};
 ghost use Rattle.sc_typing.specs.Source as source;
 ghost use Rattle.sc_typing.specs.ViewSource.{source_of};
 
@@ -130,8 +130,9 @@ impl File<'_> {
     }
 }
 
+#[tactic(auto, using(crate::proofs::Directives::counted_whole))]
 fn directives(text: &[u8]) -> Option<usize>
-    ensures { result ≡ source.directives false 0 text.now }
+    ensures { result ≡ source.directives text.now }
 {
     let mut after = false;
     let mut count = 0;

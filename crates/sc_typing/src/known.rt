@@ -170,6 +170,28 @@ impl Judged {
         self.only(true)
     }
 
+    /// Whether it has a value that is not void.
+    pub fn is_used(&self) -> bool
+        ensures { result ≡ facts.is_used (seen_judged self.now) }
+    {
+        match &self.known {
+            None => false,
+            Some(known) => !known.ty.void,
+        }
+    }
+
+    /// What stands in the tree for its value as one of the type. The error is want of memory.
+    pub fn met(self, alloc: Global, ty: &Ty) -> Result<Boxed<TypedExpr>, AllocError>
+        ensures { IfOk result (λ e. plain_typed e ≡ facts.met_expression (seen_judged self) ty.now) }
+    {
+        let Some(known) = self.known else {
+            let e = missing(alloc, self.start)?;
+            return Ok(e);
+        };
+        let known = known.meets(alloc, ty)?;
+        Ok(known.e)
+    }
+
     /// What stands for it in the tree.
     pub fn into_expr(self, alloc: Global) -> Result<Boxed<TypedExpr>, AllocError>
         ensures { IfOk result (λ e. plain_typed e ≡ facts.expression_for (seen_judged self)) }

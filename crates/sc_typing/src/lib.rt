@@ -10,8 +10,10 @@ pub mod laws;
 pub mod library;
 pub mod notes;
 pub mod places;
+pub mod rule;
 pub mod rules;
 pub mod scope;
 pub mod types;
 
 pub use answer::CheckError;
+pub use rule::Rule;

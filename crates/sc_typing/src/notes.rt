@@ -3,6 +3,7 @@
 ghost use Rattle.std.specs.Prelude.{◌≡◌, [], IfOk};
 ghost use Rattle.sc_typing.specs.Notes as notes;
 
+use crate::rule::Rule;
 use std::alloc::{AllocError, Global};
 use std::marker::Model;
 
@@ -10,7 +11,7 @@ use std::marker::Model;
 #[derive(Clone, Copy, Debug, PartialEq, Eq)]
 pub struct Breach {
     pub at: u32,
-    pub rule: u32,
+    pub rule: Rule,
 }
 
 /// The broken rules in the order in which they were met.
@@ -29,6 +30,7 @@ impl Model for Notes {
 }
 
 impl Notes {
+    /// No broken rule so far.
     pub fn new(alloc: Global) -> Notes
         ensures { result ≡ [] }
     {
@@ -37,6 +39,7 @@ impl Notes {
         }
     }
 
+    /// The broken rules, in the order in which they were met.
     pub fn as_slice(&self) -> &[Breach]
         ensures { result.now ≡ self.now }
     {
@@ -45,7 +48,7 @@ impl Notes {
 
     /// Notes that the rule is broken at the token, unless it is kept.
     #[tactic(auto, unfolding(crate::specs::Notes::unless))]
-    pub fn demand(&mut self, kept: bool, at: u32, rule: u32) -> Result<(), AllocError>
+    pub fn demand(&mut self, kept: bool, at: u32, rule: Rule) -> Result<(), AllocError>
         ensures { IfOk result (λ _. self.new ≡ notes.unless kept at rule self.old) }
     {
         if !kept {

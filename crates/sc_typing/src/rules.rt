@@ -53,8 +53,8 @@ pub fn fit(known: &Option<Known>, ty: &Ty) -> bool
 }
 
 /// The operand of `&` is a memory place.
-pub fn rule_14(operand: &Judged) -> bool
-    ensures { result ≡ rules.rule_14 (seen_judged operand.now) }
+pub fn address_kept(operand: &Judged) -> bool
+    ensures { result ≡ rules.address_kept (seen_judged operand.now) }
 {
     may_be_memory(operand.place)
 }
@@ -70,16 +70,16 @@ fn fit_left(left: &Judged, right: &Judged) -> bool
 }
 
 /// The left side of `=` is a local or a memory place, and the right side fits its type.
-pub fn rule_15(left: &Judged, right: &Judged) -> bool
-    ensures { result ≡ rules.rule_15 (seen_judged left.now) (seen_judged right.now) }
+pub fn assignment_kept(left: &Judged, right: &Judged) -> bool
+    ensures { result ≡ rules.assignment_kept (seen_judged left.now) (seen_judged right.now) }
 {
     may_be_set(left.place) && fit_left(left, right)
 }
 
 /// What `++`, `--` or a compound assignment sets is a place of type int, or of a pointer type where `moves` says that it
 /// may be one.
-pub fn rule_16_place(moves: bool, place: PlaceKind, known: &Option<Known>) -> bool
-    ensures { result ≡ rules.rule_16_place moves place (option_map seen known.now) }
+pub fn place_kept(moves: bool, place: PlaceKind, known: &Option<Known>) -> bool
+    ensures { result ≡ rules.place_kept moves place (option_map seen known.now) }
 {
     if !may_be_set(place) {
         return false;
@@ -97,10 +97,10 @@ fn moves(op: Binary) -> bool
 }
 
 /// The left side of a compound assignment is a place that it may set, and the right side an int.
-pub fn rule_16(op: Binary, left: &Judged, right: &Judged) -> bool
-    ensures { result ≡ rules.rule_16 op (seen_judged left.now) (seen_judged right.now) }
+pub fn update_kept(op: Binary, left: &Judged, right: &Judged) -> bool
+    ensures { result ≡ rules.update_kept op (seen_judged left.now) (seen_judged right.now) }
 {
-    rule_16_place(moves(op), left.place, &left.known) && are_int(&right.known)
+    place_kept(moves(op), left.place, &left.known) && are_int(&right.known)
 }
 
 /// The two sides have one type.
@@ -129,21 +129,22 @@ fn gets(left: &Judged, right: &Judged) -> bool
 }
 
 /// `:=` puts a value that fits into a global place, or gets that of a global place into another place of its type.
-pub fn rule_17(left: &Judged, right: &Judged) -> bool
-    ensures { result ≡ rules.rule_17 (seen_judged left.now) (seen_judged right.now) }
+pub fn split_assignment_kept(left: &Judged, right: &Judged) -> bool
+    ensures { result ≡ rules.split_assignment_kept (seen_judged left.now) (seen_judged right.now) }
 {
     puts(left, right) || gets(left, right)
 }
 
 /// `:-` puts a value that fits into a global place.
-pub fn rule_18(left: &Judged, right: &Judged) -> bool
-    ensures { result ≡ rules.rule_18 (seen_judged left.now) (seen_judged right.now) }
+pub fn store_kept(left: &Judged, right: &Judged) -> bool
+    ensures { result ≡ rules.store_kept (seen_judged left.now) (seen_judged right.now) }
 {
     puts(left, right)
 }
 
-pub fn rule_20(result_type: &Ty, value: &Option<Judged>) -> bool
-    ensures { result ≡ rules.rule_20 result_type.now (option_map seen_judged value.now) }
+/// `return` has a value that fits exactly where the result is not void; of an int result it may have none.
+pub fn return_kept(result_type: &Ty, value: &Option<Judged>) -> bool
+    ensures { result ≡ rules.return_kept result_type.now (option_map seen_judged value.now) }
 {
     match value {
         None => result_type.void || is_int(result_type),
@@ -151,8 +152,9 @@ pub fn rule_20(result_type: &Ty, value: &Option<Judged>) -> bool
     }
 }
 
-pub fn rule_24_arms(on: &Option<Known>, off: &Option<Known>) -> bool
-    ensures { result ≡ rules.rule_24_arms (option_map seen on.now) (option_map seen off.now) }
+/// One arm of a `?:` fits the type of the other.
+pub fn arms_kept(on: &Option<Known>, off: &Option<Known>) -> bool
+    ensures { result ≡ rules.arms_kept (option_map seen on.now) (option_map seen off.now) }
 {
     let Some(a) = on else {
         return true;
@@ -163,8 +165,9 @@ pub fn rule_24_arms(on: &Option<Known>, off: &Option<Known>) -> bool
     fits(&a.ty, a.is_null, &b.ty) || fits(&b.ty, b.is_null, &a.ty)
 }
 
-pub fn rule_24_cast(to: &Ty, operand: &Option<Known>) -> bool
-    ensures { result ≡ rules.rule_24_cast to.now (option_map seen operand.now) }
+/// A cast has no star and an int operand, or ends in `*global` or `*spread` and has a pointer to the same type.
+pub fn cast_kept(to: &Ty, operand: &Option<Known>) -> bool
+    ensures { result ≡ rules.cast_kept to.now (option_map seen operand.now) }
 {
     if !is_pointer(to) {
         return are_int(operand);
@@ -179,8 +182,8 @@ pub fn rule_24_cast(to: &Ty, operand: &Option<Known>) -> bool
 }
 
 /// The name of `for_my_1d` is an int local.
-pub fn rule_24_name(name: &Judged) -> bool
-    ensures { result ≡ rules.rule_24_name (seen_judged name.now) }
+pub fn turns_kept(name: &Judged) -> bool
+    ensures { result ≡ rules.turns_kept (seen_judged name.now) }
 {
     may_be_local(name.place) && are_int(&name.known)
 }

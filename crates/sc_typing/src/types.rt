@@ -51,6 +51,7 @@ pub fn element(alloc: Global, ty: &Ty) -> Result<Ty, AllocError>
     })
 }
 
+/// The last star of the type, which says what a pointer of the type reaches.
 pub fn last_star(ty: &Ty) -> Option<Star>
     ensures { result ≡ types.last_star ty.now }
 {
@@ -73,6 +74,7 @@ fn same_stars(a: &[Star], b: &[Star]) -> bool
     a == b
 }
 
+/// Whether the two types are equal.
 pub fn same_type(a: &Ty, b: &Ty) -> bool
     ensures { result ≡ types.same_type a.now b.now }
 {
@@ -88,12 +90,14 @@ fn has_stars(stars: &[Star]) -> bool
     }
 }
 
+/// Whether it is the type of pointers.
 pub fn is_pointer(ty: &Ty) -> bool
     ensures { result ≡ types.is_pointer ty.now }
 {
     has_stars(ty.stars.as_slice())
 }
 
+/// Whether it is the type int.
 pub fn is_int(ty: &Ty) -> bool
     ensures { result ≡ types.is_int ty.now }
 {

@@ -15,7 +15,7 @@ returns-in-Some c =
     let source = parts_are tree names texts c.as_slice-2.ensures (c.as_slice-3.ensures.value ∙ defined) in
     let notes = notes_are tree names texts source c.new-notes.ensures c.in_ok-functions.ensures.notes in
     let first = c.in-Some.ensures ∙ ap first_noted c.as_slice-4.ensures in
-    rw c.line_of.ensures (first_answered tree names texts notes first)
+    rw (c.number.ensures, c.line_of.ensures) (first_answered tree names texts notes first)
 
 pub returns : goal.returns
 returns c =

@@ -1,6 +1,6 @@
 use Rattle.std.proofs.Common.{◌≡◌, drop}
 use Rattle.sc_typing.specs.ViewSource.{source_of}
-use Rattle.sc_typing.specs.ProgramNotes.{note_objects}
+use Rattle.sc_typing.proofs.ProgramNotes.{note_objects}
 use Rattle.sc_check.proofs.file_scope.note_objects.Given as goal
 
 abbrev pub invariant-loop-o : goal.invariant-loop-o

@@ -2,7 +2,7 @@ use Rattle.std.proofs.Common.{◌≡◌, ◌++◌, map, drop}
 use Rattle.sc_tree.specs.ViewTree.{plain_function}
 use Rattle.sc_tree.specs.ViewTypedTree.{plain_typed_function}
 use Rattle.sc_typing.specs.Program.{typed_function}
-use Rattle.sc_typing.specs.ProgramNotes.{note_functions}
+use Rattle.sc_typing.proofs.ProgramNotes.{note_functions}
 use Rattle.sc_typing.specs.ViewSource.{source_of}
 use Rattle.sc_check.proofs.functions.functions_of.Given as goal
 

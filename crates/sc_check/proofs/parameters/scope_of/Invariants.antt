@@ -1,6 +1,6 @@
 use Rattle.std.proofs.Common.{◌≡◌, drop}
 use Rattle.sc_typing.specs.Program.{after_parameters}
-use Rattle.sc_typing.specs.ProgramNotes.{note_parameters}
+use Rattle.sc_typing.proofs.ProgramNotes.{note_parameters}
 use Rattle.sc_typing.specs.Scope.{nothing_in_scope}
 use Rattle.sc_typing.specs.ViewSource.{source_of}
 use Rattle.sc_check.proofs.parameters.scope_of.Given as goal

@@ -3,7 +3,7 @@ use Rattle.sc_tree.specs.ViewStmt.{plain_arm, arms_of}
 use Rattle.sc_tree.specs.ViewTree.{plain_block}
 use Rattle.sc_tree.specs.ViewTypedStmt.{plain_typed_stmt, plain_typed_arm}
 use Rattle.sc_typing.specs.Statements.{typed_all, after_all, typed_arms, after_arms}
-use Rattle.sc_typing.specs.StatementNotes.{note_all, note_arms}
+use Rattle.sc_typing.proofs.StatementNotes.{note_all, note_arms}
 use Rattle.sc_check.specs.ViewStatements.{within_of}
 use Rattle.sc_check.proofs.statements.Body.+statement.Given as goal
 

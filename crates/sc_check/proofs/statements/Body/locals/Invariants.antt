@@ -3,7 +3,7 @@ use Rattle.sc_tree.specs.ViewStmt.{declared}
 use Rattle.sc_tree.specs.ViewTypedStmt.{typed_declared}
 use Rattle.sc_typing.specs.ViewSource.{source_of}
 use Rattle.sc_typing.specs.Statements.{typed_locals, after_locals}
-use Rattle.sc_typing.specs.StatementNotes.{note_locals}
+use Rattle.sc_typing.proofs.StatementNotes.{note_locals}
 use Rattle.sc_check.proofs.statements.Body.locals.Given as goal
 
 abbrev pub invariant-loop-l : goal.invariant-loop-l

@@ -1,0 +1,2 @@
+pub mod ViewChains
+pub mod ViewTails
