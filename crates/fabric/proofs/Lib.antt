@@ -11,3 +11,5 @@ pub mod BookSteps
 pub mod Gaps
 pub mod Issues
 pub mod Quiet
+pub mod Calls
+pub mod Landing

@@ -120,12 +120,12 @@ journal_quiet state e book spare h w q stands same = record {
   pool_nodes = h.pool_nodes;
 }
 
-pub kept_quiet : (state : State) (reads reads' : Waiting) (log log' : Log) (e : Entry) (book : Book) → IsFabric state reads log
+pub kept_quiet : (state : State) (reads reads' : Waiting) (log log' : Log) (e : Entry) (book : Book) → IsFabric state reads log.nodes log.room
     → EntryWired (start_of state) (nodes_of state) state.past e → Quiet (start_of state) state.past e
     → Stands (e ∷ state.past) book → SameCounts state.book book → 0 < state.spare
     → log'.nodes ≡ log.nodes → log'.room + 1 ≡ log.room
     → AreAwaited (start_of state) (e ∷ state.past) reads'.reads → reads.spare ≤ reads'.spare
-    → IsFabric (record state { book = book; past = e ∷ state.past; spare = state.spare - 1 }) reads' log'
+    → IsFabric (record state { book = book; past = e ∷ state.past; spare = state.spare - 1 }) reads' log'.nodes log'.room
 kept_quiet state reads reads' log log' e book h w q stands same some nodes room waiting more = record {
   of_journal = journal_quiet state e book (state.spare - 1) h.of_journal w q stands same;
   ready = subst (λ s. Each (IsReady state.memory.layout s) (messages_of state.pool)) (sym same.sites) h.ready;

@@ -13,3 +13,4 @@ pub mod Reads
 pub mod State
 pub mod Kept
 pub mod Log
+pub mod Causes

@@ -67,3 +67,9 @@ abbrev pub need_of : Access → ℕ
 need_of (Read place track) = 3
 need_of (Write place value track) = 3
 need_of (Copy from to cells track) = 1 + 3 * cells
+
+-- the access has few cells
+abbrev pub HasFewCells : Access → Type 0
+HasFewCells (Read place track) = Unit {0}
+HasFewCells (Write place value track) = Unit {0}
+HasFewCells (Copy from to cells track) = cells ≤ 65536

@@ -2,5 +2,7 @@
 #![tactic(auto)]
 
 pub mod message;
+mod pool;
 
 pub use message::{Message, MsgId, Part};
+pub use pool::MsgPool;
