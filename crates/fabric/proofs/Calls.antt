@@ -194,7 +194,7 @@ few_deliveries (m ∷ ms) = (let d = at_most_two m.part in omega (arith, d, few_
     at_most_two (part.Read from (Some to)) = omega arith
     at_most_two (part.Write to value) = omega arith
 
-count_messages : (ps : List Pending) → length (map (λ (p : Pending). p.message) ps) ≡ length ps
+pub count_messages : (ps : List Pending) → length (map (λ (p : Pending). p.message) ps) ≡ length ps
 count_messages [] = refl
 count_messages (p ∷ ps) = ap suc (count_messages ps)
 

@@ -92,7 +92,7 @@ as_many start past node counter rs a = sym (count_map (reads_on node counter rs)
 -- ---- the wait
 
 same_counts : (state : State) → SameCounts state.book state.book
-same_counts state = record { nodes = refl; sites = refl; counters = λ node counter below. refl; stores = refl; covered = refl; all = refl }
+same_counts state = record { nodes = refl; sites = refl; counters = λ node counter below. refl; stores = refl; covered = refl; all = refl; lists = λ node below. refl }
 
 pub wait_kept : (state : State) (reads reads' : Waiting) (log log' : Log) (node counter : ℕ) → IsFabric state reads log.nodes log.room → Going (nodes_of state) state.past node
     → outstanding (start_of state) (λ other. other == node) (is_counter counter) state.past ≡ 0 → 0 < state.spare

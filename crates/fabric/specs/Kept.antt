@@ -54,18 +54,9 @@ abbrev pub deliveries_of : Part → ℕ
 deliveries_of (part.Read from (Some to)) = 2
 deliveries_of _ = 1
 
--- how many messages are still to be put in the place of delivered ones
-abbrev pub returns_of : Part → ℕ
-returns_of (part.Read from (Some to)) = 1
-returns_of _ = 0
-
 abbrev pub deliveries : List Message → ℕ
 deliveries [] = 0
 deliveries (m ∷ ms) = deliveries_of m.part + deliveries ms
-
-abbrev pub returns : List Message → ℕ
-returns [] = 0
-returns (m ∷ ms) = returns_of m.part + returns ms
 
 -- the read is an access of the past, and has its value as far as it is known
 pub record IsRead (past : List Entry) (earlier : List Effect) (read : Awaited) : Type 0 where
@@ -87,4 +78,4 @@ pub record IsFabric (state : State) (reads : Waiting) (nodes room : ℕ) : Type 
   pub entries_fit : state.spare + deliveries (messages_of state.pool) ≤ room
   pub puts_fit : state.spare ≤ state.pool.spare
   pub reads_fit : state.spare ≤ reads.spare
-  pub few_puts : state.pool.puts + returns (messages_of state.pool) ≤ length state.past + deliveries (messages_of state.pool)
+  pub few_puts : state.pool.puts ≤ length state.past + length (messages_of state.pool)

@@ -14,3 +14,4 @@ pub mod State
 pub mod Kept
 pub mod Log
 pub mod Causes
+pub mod Issuing

@@ -3,6 +3,7 @@
 
 mod answers;
 mod barriers;
+mod issuing;
 pub mod laws;
 pub mod log;
 pub mod reads;
