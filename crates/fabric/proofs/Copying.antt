@@ -80,3 +80,11 @@ one_more was is now count a b = record {
   few = omega (arith, a.few, b.few);
   grown = omega (arith, a.grown, b.grown);
 }
+
+-- an access of one cell
+pub one_cell : (node number : ℕ) (access : Access) (earlier : List Effect) (was is : Memory) (pool pool' : Pool)
+    → CellIssued node number 0 access earlier was is pool pool' → CellsIssued node number 1 access earlier was is pool pool'
+one_cell node number access earlier was is pool pool' i = record { holds = i.holds; messages = i.messages }
+
+pub first_untouched : (node number : ℕ) (earlier : List Effect) → Unissued node number earlier → Untouched node number 0 earlier
+first_untouched node number earlier u = record { none = λ wrote. u.none 0 wrote }

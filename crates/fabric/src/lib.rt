@@ -8,6 +8,7 @@ pub mod laws;
 pub mod log;
 pub mod reads;
 pub mod state;
+mod steps;
 mod waits;
 
 pub use answers::{Delivered, Issued, Passed, Waited};
