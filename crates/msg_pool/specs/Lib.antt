@@ -1,1 +1,5 @@
 pub mod Pool
+pub mod Chains
+pub mod Slots
+pub mod Sound
+pub mod Inner

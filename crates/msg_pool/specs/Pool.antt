@@ -1,5 +1,5 @@
 -- A pool of messages that are under way: the pending ones, each with its id, in the order of their puts.
-use Rattle.std.specs.Prelude.{◌≡◌, ◌≢◌, ℕ, ◌+◌, ◌-◌, List, [], ◌∷◌, ◌++◌, map, ◌==◌}
+use Rattle.std.specs.Prelude.{◌≡◌, ℕ, ◌+◌, ◌-◌, List, [], ◌∷◌, ◌++◌, map, ◌==◌}
 use Rattle.std.specs.List.{filter, Contains}
 use Rattle.msg_pool.specs.declared.message.Message.{Message}
 use Rattle.msg_pool.specs.declared.message.MsgId.{MsgId}

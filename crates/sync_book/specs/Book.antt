@@ -1,6 +1,8 @@
 -- The books of a run: for each node how many of its cells are outstanding on each counter and where it stands between
 -- barriers, and for all nodes together how many one-way cells are in flight.
-use Rattle.std.specs.Prelude.{◌≡◌, ℕ, ◌+◌, ◌<◌, ◌≤◌, List, Bool, true, false, not, ◌&&◌, ◌||◌, if◌then◌else◌, Option, Some, None, map, length, slice_get, slice_set, slice_index_or, sum, sum_by, count_by, replicate, ◌⊎◌, IsTrue, IsSome}
+use Rattle.std.specs.Prelude.{◌≡◌, ℕ, ◌+◌, ◌≤◌, ◌⊎◌, List, Bool, true, false, not, ◌&&◌, ◌||◌, if◌then◌else◌}
+use Rattle.std.specs.Prelude.{Option, None, map, length, slice_set, slice_index_or, sum, sum_by, count_by, replicate}
+use Rattle.std.specs.Prelude.{IsTrue, IsSome}
 use Rattle.std.specs.List.{list_any, list_all, position}
 use Rattle.sc_isa.specs.declared.access.Track.{Track}
 use Rattle.sc_isa.specs.declared.access.Track.TheVariants.{Counter, Store, Covered}
@@ -51,10 +53,14 @@ outstanding_on book node (Counter counter) = outstanding book node counter
 outstanding_on book node Store = book.stores
 outstanding_on book node Covered = book.covered
 
+-- the node with this count on the counter
+abbrev pub with_counter : NodeBook → ℕ → ℕ → NodeBook
+with_counter row counter count = record row { counters = slice_set row.counters counter count }
+
 -- the books with this count there
 abbrev pub with_outstanding : Book → ℕ → Track → ℕ → Book
 with_outstanding book node (Counter counter) count =
-    with_node book node (record (node_at book node) { counters = slice_set (node_at book node).counters counter count })
+    with_node book node (with_counter (node_at book node) counter count)
 with_outstanding book node Store count = record book { stores = count }
 with_outstanding book node Covered count = record book { covered = count }
 
@@ -110,9 +116,12 @@ is_settled row = is_arrived row.standing || row.finished
 -- where none has finished
 abbrev pub broken_by : Book → Option ℕ
 broken_by book =
-    if list_any stands book.nodes && list_all is_settled book.nodes then position (λ row. row.finished) book.nodes else None
+    if list_any stands book.nodes && list_all is_settled book.nodes
+    then position (λ row. row.finished) book.nodes
+    else None
 
 -- the node stands at no barrier, or at a broken one, and has not finished
 pub record MayFinish (book : Book) (node : ℕ) : Type 0 where
   pub running : (node_at book node).finished ≡ false
-  pub free : ((node_at book node).standing ≡ Away) ⊎ (IsTrue (stands (node_at book node)) × IsSome (broken_by book))
+  pub free :
+      ((node_at book node).standing ≡ Away) ⊎ (IsTrue (stands (node_at book node)) × IsSome (broken_by book))

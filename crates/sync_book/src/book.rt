@@ -1,10 +1,12 @@
 //! The books of a run.
 
-ghost use Rattle.std.specs.Prelude.{◌≡◌, ◌<◌, ◌≤◌, ◌+◌, ◌-◌, ◌^◌, ◌↔◌, IfOk, IfSome, IsTrue, length, true, false, replicate, count_by, not, map};
+ghost use Rattle.std.specs.Prelude.{◌≡◌, ◌<◌, ◌≤◌, ◌+◌, ◌-◌, ◌^◌, ◌↔◌, IfOk, IfSome};
+ghost use Rattle.std.specs.Prelude.{IsTrue, length, true, false, replicate, count_by, not, map};
 ghost use Rattle.std.specs.List.{list_any, list_all, position};
 ghost use Rattle.sc_isa.specs.declared.access.Track.TheVariants.{Counter};
 ghost use Rattle.sync_book.specs.declared.standing.Standing.TheVariants.{Away, Arrived, Released};
-ghost use Rattle.sync_book.specs.Book.{empty_book, fresh_node, node_at, with_node, outstanding, outstanding_on, with_outstanding, all_outstanding, IsTrackOf, gap_of, CanRelease, after_release, broken_by, MayFinish, is_arrived, waits_for_stores, stands, is_settled, released_node};
+ghost use Rattle.sync_book.specs.Book.{empty_book, fresh_node, node_at, with_node, outstanding, outstanding_on, with_outstanding, all_outstanding, IsTrackOf};
+ghost use Rattle.sync_book.specs.Book.{gap_of, CanRelease, after_release, broken_by, MayFinish, is_arrived, waits_for_stores, stands, is_settled, released_node};
 
 use crate::gap::Gap;
 use crate::row::Row;
@@ -35,7 +37,8 @@ impl Model for SyncBook {
 
     ghost view = { λ b. record { nodes = b.rows.items; sites = b.sites; stores = b.stores; covered = b.covered } };
 
-    ghost invariant = { λ b. (vec_len b.rows < 2 ^ 32) × All (HasCounters b.sites) b.rows.items × (b.stores + b.covered < 2 ^ 64) };
+    ghost invariant = { λ b. (vec_len b.rows < 2 ^ 32) × All (HasCounters b.sites) b.rows.items
+        × (b.stores + b.covered < 2 ^ 64) };
 }
 
 impl SyncBook {

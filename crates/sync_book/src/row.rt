@@ -1,7 +1,7 @@
 //! What the books keep of one node.
 
-ghost use Rattle.std.specs.Prelude.{◌≡◌, ◌+◌, ◌-◌, ◌<◌, ◌^◌, IfOk, true, length, slice_index, slice_set};
-ghost use Rattle.sync_book.specs.Book.{fresh_node, is_arrived, waits_for_stores, released_node, stands, is_settled};
+ghost use Rattle.std.specs.Prelude.{◌≡◌, ◌+◌, ◌-◌, ◌<◌, ◌^◌, IfOk, true, length, slice_index};
+ghost use Rattle.sync_book.specs.Book.{fresh_node, with_counter, is_arrived, waits_for_stores, released_node, stands, is_settled};
 
 use crate::standing::Standing;
 use std::alloc::{AllocError, Global};
@@ -49,7 +49,7 @@ impl Row {
     pub fn add(&mut self, counter: u32, cells: u32)
         requires counter { counter < length self.old.counters }
         requires fits { slice_index self.old.counters counter + cells < 2 ^ 64 }
-        ensures { self.new ≡ record self.old { counters = slice_set self.old.counters counter (slice_index self.old.counters counter + cells) } }
+        ensures { self.new ≡ with_counter self.old counter (slice_index self.old.counters counter + cells) }
     {
         self.counters[counter as usize] += u64::from(cells);
     }
@@ -58,7 +58,7 @@ impl Row {
     pub fn take_one(&mut self, counter: u32)
         requires counter { counter < length self.old.counters }
         requires outstanding { 0 < slice_index self.old.counters counter }
-        ensures { self.new ≡ record self.old { counters = slice_set self.old.counters counter (slice_index self.old.counters counter - 1) } }
+        ensures { self.new ≡ with_counter self.old counter (slice_index self.old.counters counter - 1) }
     {
         self.counters[counter as usize] -= 1;
     }

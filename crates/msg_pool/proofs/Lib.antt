@@ -1,0 +1,12 @@
+pub mod Segments
+pub mod WalkSteps
+pub mod Families
+pub mod Slabs
+pub mod Shapes
+pub mod Keys
+pub mod Ready
+pub mod Putting
+pub mod Taking
+pub mod Shown
+pub mod Steps
+pub mod Walks

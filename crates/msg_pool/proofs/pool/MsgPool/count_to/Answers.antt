@@ -1,0 +1,8 @@
+use Rattle.msg_pool.specs.Inner.{parts_of}
+use Rattle.msg_pool.proofs.Shown.{target_count}
+use Rattle.msg_pool.proofs.pool.MsgPool.count_to.Goals as goal
+
+pub returns : goal.returns
+returns c =
+    rw (← c.self.view_is, c.chain_of-chain.ensures, c.as_slice.ensures.value)
+    (target_count (parts_of c.self.inside) c.self.invariant c.args.target)

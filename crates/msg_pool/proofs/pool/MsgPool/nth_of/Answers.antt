@@ -1,0 +1,34 @@
+use Rattle.std.proofs.Common.{Some, ap, ◌∙◌}
+use Rattle.std.specs.Option.{option_map}
+use Rattle.msg_pool.specs.declared.slot.Grouping.TheVariants.{Issuer}
+use Rattle.msg_pool.specs.Inner.{parts_of}
+use Rattle.msg_pool.specs.Slots.{pending_at}
+use Rattle.msg_pool.proofs.Shown.{read_issuer_walked, read_issuer_nth, present_at}
+use Rattle.msg_pool.proofs.pool.MsgPool.nth_of.Goals as goal
+
+pub nth-requires : goal.nth-requires
+nth-requires c =
+    read_issuer_walked (parts_of c.self.inside) c.self.invariant c.chain_of-chain.result c.args.issuer
+    (rw c.as_slice.ensures.value at c.chain_of-chain.ensures)
+
+pub returns-in_err-key : goal.returns-in_err-key
+returns-in_err-key c =
+    rw (c.from_residual.ensures, ← c.self.view_is)
+    (ap (option_map (λ key. (pending_at c.self.inside.slots key).id)) c.in_err-key.ensures
+    ∙ read_issuer_nth (parts_of c.self.inside) c.self.invariant c.chain_of-chain.result c.args.issuer
+    (rw c.as_slice.ensures.value at c.chain_of-chain.ensures) c.args.k)
+
+pub id_at-requires : goal.id_at-requires
+id_at-requires c =
+    present_at Issuer c.self.inside.slots c.chain_of-chain.result c.args.k c.in_ok-key.key
+    (read_issuer_walked (parts_of c.self.inside) c.self.invariant c.chain_of-chain.result c.args.issuer
+    (rw c.as_slice.ensures.value at c.chain_of-chain.ensures))
+    c.in_ok-key.ensures
+
+pub returns : goal.returns
+returns c =
+    rw (← c.self.view_is)
+    (ap (λ id. Some id) c.id_at.ensures
+    ∙ ap (option_map (λ key. (pending_at c.self.inside.slots key).id)) c.in_ok-key.ensures
+    ∙ read_issuer_nth (parts_of c.self.inside) c.self.invariant c.chain_of-chain.result c.args.issuer
+    (rw c.as_slice.ensures.value at c.chain_of-chain.ensures) c.args.k)
