@@ -41,7 +41,7 @@ occurs_keeps P node (Some e) earlier step same = by_test (e.place.node == node)
     by_test false = same
 
 -- what a due part of the cell keeps, the cell's parts at issue keep
-cell_keeps : (P : List Effect → Type 0) (start : Place → Value) (t : Transfer) (node number cell : ℕ)
+pub cell_keeps : (P : List Effect → Type 0) (start : Place → Value) (t : Transfer) (node number cell : ℕ)
     → ((earlier : List Effect) (e : Effect) → P earlier → due start t node number cell earlier ≡ Some e → P (e ∷ earlier))
     → (earlier : List Effect) → P earlier → P (cell_at_issue start t node number cell earlier)
 cell_keeps P start t node number cell step earlier h =

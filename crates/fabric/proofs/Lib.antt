@@ -11,3 +11,14 @@ pub mod BookSteps
 pub mod Gaps
 pub mod Issues
 pub mod Quiet
+pub mod Calls
+pub mod Landing
+pub mod Cells
+pub mod CellSteps
+pub mod Sums
+pub mod Awaiting
+pub mod Copying
+pub mod IssueSteps
+pub mod Counted
+pub mod Fewer
+pub mod Delivering

@@ -23,7 +23,7 @@ use Rattle.fabric.specs.Books.{Counts, Stands}
 use Rattle.fabric.specs.Reads.{Waiting}
 use Rattle.fabric.specs.Log.{Log}
 use Rattle.fabric.specs.State.{State, messages_of, start_of, nodes_of}
-use Rattle.fabric.specs.Kept.{IsOfJournal, IsReady, IsRead, AreAwaited, IsFabric, deliveries, returns}
+use Rattle.fabric.specs.Kept.{IsOfJournal, IsReady, IsRead, AreAwaited, IsFabric, deliveries}
 use Rattle.fabric.proofs.Deciding.{decide_on, decide_eq, decide_lt}
 use Rattle.fabric.proofs.BookSteps.{at_same, at_other, length_set, length_map, mapped}
 
@@ -36,6 +36,7 @@ pub record SameCounts (old new : Book) : Type 0 where
   pub stores : new.stores ≡ old.stores
   pub covered : new.covered ≡ old.covered
   pub all : all_outstanding new ≡ all_outstanding old
+  pub lists : (node : ℕ) → node < length old.nodes → length (node_at new node).counters ≡ length (node_at old node).counters
 
 pub with_row : (book : Book) (q : ℕ) (row : NodeBook) → q < length book.nodes → row.counters ≡ (node_at book q).counters → SameCounts book (with_node book q row)
 with_row book q row within same = record {
@@ -53,6 +54,11 @@ with_row book q row within same = record {
       sum_by-set (λ (r : NodeBook). sum r.counters) book.nodes q row (fresh_node book.sites) within in
       let own : sum row.counters ≡ sum (node_at book q).counters = ap sum same in
       omega (arith, moved, own));
+  lists = λ node below.
+      decide_eq q node
+      (λ is. ap (λ (r : NodeBook). length r.counters) (subst (λ x. node_at (with_node book q row) x ≡ row) is (at_same book q row within))
+      ∙ ap length (subst (λ x. row.counters ≡ (node_at book x).counters) is same))
+      (λ ne. ap (λ (r : NodeBook). length r.counters) (at_other book q node row ne));
 }
 
 sum_released : (rows : List NodeBook) → sum_by (λ (r : NodeBook). sum r.counters) (map released_node rows) ≡ sum_by (λ (r : NodeBook). sum r.counters) rows
@@ -70,6 +76,7 @@ released_rows book = record {
   stores = refl;
   covered = refl;
   all = ap (λ s. s + book.stores + book.covered) (sum_released book.nodes);
+  lists = λ node below. ap (λ (r : NodeBook). length r.counters) (mapped released_node book.nodes node (fresh_node book.sites) below);
 }
 
 pub then_same : (one two three : Book) → SameCounts one two → SameCounts two three → SameCounts one three
@@ -80,6 +87,7 @@ then_same one two three a b = record {
   stores = b.stores ∙ a.stores;
   covered = b.covered ∙ a.covered;
   all = b.all ∙ a.all;
+  lists = λ node below. b.lists node (subst (λ n. node < n) (sym a.nodes) below) ∙ a.lists node below;
 }
 
 pub counts_same : (ms : List Message) (old new : Book) → Counts ms old → SameCounts old new → Counts ms new
@@ -90,6 +98,9 @@ counts_same ms old new c s = record {
   stores = s.stores ∙ c.stores;
   covered = s.covered ∙ c.covered;
   all = s.all ∙ c.all;
+  lists = λ node below.
+      let below_old : node < length old.nodes = subst (λ n. node < n) s.nodes below in
+      s.lists node below_old ∙ c.lists node below_old ∙ ap (λ n. n + 1) (sym s.sites);
 }
 
 -- ---- entries that change no cell and no message
@@ -120,12 +131,12 @@ journal_quiet state e book spare h w q stands same = record {
   pool_nodes = h.pool_nodes;
 }
 
-pub kept_quiet : (state : State) (reads reads' : Waiting) (log log' : Log) (e : Entry) (book : Book) → IsFabric state reads log
+pub kept_quiet : (state : State) (reads reads' : Waiting) (log log' : Log) (e : Entry) (book : Book) → IsFabric state reads log.nodes log.room
     → EntryWired (start_of state) (nodes_of state) state.past e → Quiet (start_of state) state.past e
     → Stands (e ∷ state.past) book → SameCounts state.book book → 0 < state.spare
     → log'.nodes ≡ log.nodes → log'.room + 1 ≡ log.room
     → AreAwaited (start_of state) (e ∷ state.past) reads'.reads → reads.spare ≤ reads'.spare
-    → IsFabric (record state { book = book; past = e ∷ state.past; spare = state.spare - 1 }) reads' log'
+    → IsFabric (record state { book = book; past = e ∷ state.past; spare = state.spare - 1 }) reads' log'.nodes log'.room
 kept_quiet state reads reads' log log' e book h w q stands same some nodes room waiting more = record {
   of_journal = journal_quiet state e book (state.spare - 1) h.of_journal w q stands same;
   ready = subst (λ s. Each (IsReady state.memory.layout s) (messages_of state.pool)) (sym same.sites) h.ready;

@@ -1,6 +1,6 @@
 -- When books are those of a journal: their counts are of the messages in flight, and each node stands in them where the
 -- journal has it. A past is a list of entries, the newest first.
-use Rattle.std.specs.Prelude.{◌≡◌, ℕ, ◌<◌, ◌≤◌, List, [], ◌∷◌, length, is_some, Bool, true, false, ◌==◌, nat_le, if◌then◌else◌}
+use Rattle.std.specs.Prelude.{◌≡◌, ℕ, ◌+◌, ◌<◌, ◌≤◌, List, [], ◌∷◌, length, is_some, Bool, true, false, ◌==◌, nat_le, if◌then◌else◌}
 use Rattle.sc_isa.specs.declared.journal.Entry.{Entry}
 use Rattle.sc_isa.specs.declared.journal.Entry.TheVariants.{Arrived as Arrives}
 use Rattle.msg_pool.specs.declared.message.Message.{Message}
@@ -31,6 +31,7 @@ pub record Counts (messages : List Message) (book : Book) : Type 0 where
   pub stores : book.stores ≡ flying_count (λ other. true) is_store messages
   pub covered : book.covered ≡ flying_count (λ other. true) is_covered messages
   pub all : all_outstanding book ≡ length messages
+  pub lists : (node : ℕ) → node < length book.nodes → length (node_at book node).counters ≡ book.sites + 1
 
 -- the nodes stand in the books as the past has it
 pub record Stands (past : List Entry) (book : Book) : Type 0 where

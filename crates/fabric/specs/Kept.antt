@@ -24,7 +24,6 @@ use Rattle.fabric.specs.Flight.{in_flight}
 use Rattle.fabric.specs.Wired.{Wired}
 use Rattle.fabric.specs.Books.{Counts, Stands}
 use Rattle.fabric.specs.Reads.{Waiting, reads_on}
-use Rattle.fabric.specs.Log.{Log}
 use Rattle.fabric.specs.State.{State, messages_of, start_of, nodes_of, IsTrack, type_at}
 
 -- the journal is one that the fabric allows, and memory, messages and books are those of the journal
@@ -55,18 +54,9 @@ abbrev pub deliveries_of : Part → ℕ
 deliveries_of (part.Read from (Some to)) = 2
 deliveries_of _ = 1
 
--- how many messages are still to be put in the place of delivered ones
-abbrev pub returns_of : Part → ℕ
-returns_of (part.Read from (Some to)) = 1
-returns_of _ = 0
-
 abbrev pub deliveries : List Message → ℕ
 deliveries [] = 0
 deliveries (m ∷ ms) = deliveries_of m.part + deliveries ms
-
-abbrev pub returns : List Message → ℕ
-returns [] = 0
-returns (m ∷ ms) = returns_of m.part + returns ms
 
 -- the read is an access of the past, and has its value as far as it is known
 pub record IsRead (past : List Entry) (earlier : List Effect) (read : Awaited) : Type 0 where
@@ -79,13 +69,13 @@ pub record AreAwaited (start : Place → Value) (past : List Entry) (reads : Lis
   pub numbers : (node counter : ℕ) → map (λ (read : Awaited). read.number) (reads_on node counter reads) ≡ awaited node counter past
   pub each : Each (IsRead past (effects start past)) reads
 
--- what a fabric keeps, with the reads that waits will answer and the room of its journal
-pub record IsFabric (state : State) (reads : Waiting) (log : Log) : Type 0 where
+-- what a fabric keeps, with the reads that waits will answer, the number of nodes of its journal and its room for entries
+pub record IsFabric (state : State) (reads : Waiting) (nodes room : ℕ) : Type 0 where
   pub of_journal : IsOfJournal state
   pub ready : Each (IsReady state.memory.layout state.book.sites) (messages_of state.pool)
   pub awaited_are : AreAwaited (start_of state) state.past reads.reads
-  pub log_nodes : log.nodes ≡ nodes_of state
-  pub entries_fit : state.spare + deliveries (messages_of state.pool) ≤ log.room
+  pub log_nodes : nodes ≡ nodes_of state
+  pub entries_fit : state.spare + deliveries (messages_of state.pool) ≤ room
   pub puts_fit : state.spare ≤ state.pool.spare
   pub reads_fit : state.spare ≤ reads.spare
-  pub few_puts : state.pool.puts + returns (messages_of state.pool) ≤ length state.past + deliveries (messages_of state.pool)
+  pub few_puts : state.pool.puts ≤ length state.past + length (messages_of state.pool)

@@ -13,3 +13,5 @@ pub mod Reads
 pub mod State
 pub mod Kept
 pub mod Log
+pub mod Causes
+pub mod Issuing

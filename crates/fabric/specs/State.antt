@@ -15,6 +15,7 @@ use Rattle.sc_isa.specs.declared.access.Track.TheVariants.{Counter, Store, Cover
 use Rattle.sc_isa.specs.declared.journal.Entry.{Entry}
 use Rattle.msg_pool.specs.declared.message.Message.{Message}
 use Rattle.msg_pool.specs.Pool.{Pool, Pending}
+use Rattle.fabric.specs.Access.{track_of}
 use Rattle.node_memory.specs.Memory.{Memory}
 use Rattle.sync_book.specs.Book.{Book}
 
@@ -56,14 +57,25 @@ pub record IsCopy (layout : Arrangement) (from to : Place) (cells : ℕ) : Type 
   pub to_inside : (cell : ℕ) → cell < cells → IsPlace layout (further cell to)
   pub one_type : type_at layout from ≡ type_at layout to
 
--- the access lies in the layout, what it writes fits, and it is on a counter that there is
-abbrev pub IsAccess : Arrangement → (sites : ℕ) → Access → Type 0
-IsAccess layout sites (Read place track) = IsPlace layout place × IsTrack sites track
-IsAccess layout sites (Write place value track) = IsPlace layout place × Fits layout place value × IsTrack sites track
-IsAccess layout sites (Copy from to cells track) = IsCopy layout from to cells × IsTrack sites track
+-- the access lies in the layout, and what it writes fits
+abbrev pub IsPlaced : Arrangement → Access → Type 0
+IsPlaced layout (Read place track) = IsPlace layout place
+IsPlaced layout (Write place value track) = IsPlace layout place × Fits layout place value
+IsPlaced layout (Copy from to cells track) = IsCopy layout from to cells
+
+-- it also is on a counter that there is
+pub record IsAccess (layout : Arrangement) (sites : ℕ) (access : Access) : Type 0 where
+  pub placed : IsPlaced layout access
+  pub track : IsTrack sites (track_of access)
 
 -- how much room an access needs: an entry for its issue, two for the deliveries of each copied cell, and its messages
 abbrev pub need_of : Access → ℕ
 need_of (Read place track) = 3
 need_of (Write place value track) = 3
 need_of (Copy from to cells track) = 1 + 3 * cells
+
+-- the access has few cells
+abbrev pub HasFewCells : Access → Type 0
+HasFewCells (Read place track) = Unit {0}
+HasFewCells (Write place value track) = Unit {0}
+HasFewCells (Copy from to cells track) = cells ≤ 65536

@@ -2,5 +2,7 @@
 #![tactic(auto)]
 
 pub mod memory;
+#[cfg(test)]
+mod tests;
 
 pub use memory::NodeMemory;
