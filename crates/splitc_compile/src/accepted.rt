@@ -2,6 +2,7 @@
 
 ghost use Rattle.std.specs.Prelude.{ℕ, ◌≡◌, ◌≤◌, ◌<◌, List, IfOk, IfErr, length};
 ghost use Rattle.std.specs.List.{All};
+ghost use Rattle.sc_base.specs.declared.limits.TheConstants.{LIMITS};
 ghost use Rattle.sc_layout.specs.Layout.{IsLawful};
 ghost use Rattle.sc_lexer.specs.Text.{IsLexed};
 ghost use Rattle.sc_typing.specs.Answer.{IsWellTyped};
@@ -27,10 +28,10 @@ pub struct Accepted {
     pub layout: Layout,
 }
 
-/// The typed tree and the layout of the source for so many nodes, or the first refusal. A source has at most 262,144
-/// bytes.
+/// The typed tree and the layout of the source for so many nodes, or the first refusal. A source has at most
+/// `LIMITS.source` bytes, and there is at least one node.
 pub fn accept(alloc: Global, source: &[u8], nodes: u32) -> Result<Accepted, CompileError>
-    requires short { length source.now ≤ 262144 }
+    requires short { length source.now ≤ LIMITS.source }
     requires some_node { 0 < nodes }
     ensures { accepting.IsAnswer source.now nodes result }
 {
@@ -59,9 +60,9 @@ pub fn accept(alloc: Global, source: &[u8], nodes: u32) -> Result<Accepted, Comp
 
 /// The tokens of the source.
 fn lexed_of(alloc: Global, source: &[u8]) -> Result<Lexed, CompileError>
-    requires { length source.now ≤ 262144 }
+    requires { length source.now ≤ LIMITS.source }
     ensures lexed { IfOk result (λ lexed. IsLexed source.now lexed) }
-    ensures tokens { IfOk result (λ lexed. length lexed.tokens ≤ 65536) }
+    ensures tokens { IfOk result (λ lexed. length lexed.tokens ≤ LIMITS.tokens) }
     ensures refused { IfErr result (λ e. (nodes : ℕ) → accepting.Excuses source.now nodes e) }
 {
     match lex(alloc, source) {
@@ -72,7 +73,7 @@ fn lexed_of(alloc: Global, source: &[u8]) -> Result<Lexed, CompileError>
 
 /// The tree of the tokens.
 fn tree_of(alloc: Global, lexed: &Lexed) -> Result<Tree, CompileError>
-    requires { length lexed.now.tokens ≤ 65536 }
+    requires { length lexed.now.tokens ≤ LIMITS.tokens }
     ensures read { IfOk result (λ tree. (source : List ℕ) → IsLexed source lexed.now → accepting.IsRead source lexed.now (plain_tree tree)) }
     ensures refused { IfErr result (λ e. (source : List ℕ) (nodes : ℕ) → IsLexed source lexed.now → accepting.Excuses source nodes e) }
 {

@@ -43,6 +43,7 @@ impl From<AllocError> for CompileError {
     }
 }
 
+/// Why the bytes of a source are no tokens, as the answer for the source.
 pub fn of_lexing(e: LexError) -> CompileError
     ensures { result ≡ refusals.of_lexing e }
 {
@@ -56,6 +57,7 @@ pub fn of_lexing(e: LexError) -> CompileError
     }
 }
 
+/// Why the tokens of a source are no sentence, as the answer for the source.
 pub fn of_parsing(e: ParseError) -> CompileError
     ensures { result ≡ refusals.of_parsing e }
 {
@@ -66,6 +68,7 @@ pub fn of_parsing(e: ParseError) -> CompileError
     }
 }
 
+/// Why the objects of a source have no layout, as the answer for the source.
 pub fn of_layout(e: LayoutError) -> CompileError
     ensures { result ≡ refusals.of_layout e }
 {
@@ -81,6 +84,7 @@ pub fn of_layout(e: LayoutError) -> CompileError
     }
 }
 
+/// Which typing rule a source breaks, as the answer for the source.
 pub fn of_check(e: CheckError) -> CompileError
     ensures { result ≡ refusals.of_check e }
 {
