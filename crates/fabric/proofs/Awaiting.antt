@@ -1,13 +1,10 @@
 -- Which reads are awaited, through an issue and a delivery.
-use Rattle.std.proofs.Common.{◌≡◌, ℕ, zero, suc, ◌+◌, ◌<◌, List, [], ◌∷◌, ◌++◌, map, Option, Some, None, Bool, true, false, ◌&&◌, ◌==◌, refl, sym, ap, ◌∙◌, subst, arith}
+use Rattle.std.proofs.Common.{◌≡◌, ℕ, List, [], ◌∷◌, ◌++◌, map, Some, None, Bool, true, false, ◌&&◌, ◌==◌, refl, sym, ap, ◌∙◌, subst}
 use Rattle.std.specs.Prelude.{if◌then◌else◌, cond, pos}
-use Rattle.std.specs.List.{filter}
-use Rattle.std.proofs.lemmas.Bool.{and_parts, eqb-true, eq-eqb, and_right}
 use Rattle.sc_base.specs.declared.value.Value.{Value}
 use Rattle.sc_base.specs.declared.value.Place.{Place}
 use Rattle.sc_base.specs.declared.value.Value.TheVariants.{Int}
 use Rattle.effect_order.specs.Effect.{Effect, held}
-use Rattle.effect_order.specs.Lists.{Each}
 use Rattle.effect_order.proofs.Members.{each-map, each-append}
 use Rattle.effect_order.specs.Transfer.{part_value, taking}
 use Rattle.sc_layout.specs.Place.{IsPlace}
@@ -18,7 +15,7 @@ use Rattle.sc_isa.specs.declared.access.Access.TheVariants.{Read, Write, Copy}
 use Rattle.sc_isa.specs.declared.access.Track.{Track}
 use Rattle.sc_isa.specs.declared.access.Track.TheVariants.{Counter, Store, Covered}
 use Rattle.sc_isa.specs.declared.journal.Entry.{Entry}
-use Rattle.sc_isa.specs.declared.journal.Entry.TheVariants.{Issued, Delivered}
+use Rattle.sc_isa.specs.declared.journal.Entry.TheVariants.{Issued}
 use Rattle.fabric.specs.declared.reads.Awaited.{Awaited}
 use Rattle.fabric.specs.Access.{transfer_of, is_read_on}
 use Rattle.fabric.specs.Effects.{access_at, awaited, effects, or_zero}
@@ -98,7 +95,7 @@ issued_read start past p k d place v rs free value w =
 
 -- ---- a delivery
 
-filled_on : (node counter p n : ℕ) (v : Value) (rs : List Awaited)
+pub filled_on : (node counter p n : ℕ) (v : Value) (rs : List Awaited)
     → map (λ (x : Awaited). x.number) (reads_on node counter (map (filled p n v) rs)) ≡ map (λ (x : Awaited). x.number) (reads_on node counter rs)
 filled_on node counter p n v [] = refl
 filled_on node counter p n v (r ∷ rs) =

@@ -1,16 +1,14 @@
 -- How arrivals, passes and releases go together in a journal that the fabric keeps.
-use Rattle.std.proofs.Common.{◌≡◌, ◌≢◌, ℕ, zero, suc, ◌+◌, ◌<◌, ◌≤◌, max, List, [], ◌∷◌, Option, Some, None, Bool, true, false, ◌&&◌, ◌||◌, ◌==◌, refl, sym, ap, ◌∙◌, subst, arith}
-use Rattle.std.specs.Prelude.{if◌then◌else◌, is_some, IsSome}
-use Rattle.std.proofs.lemmas.Bool.{eq-eqb, ne_eqb, eqb-true, and_parts, or_cases}
+use Rattle.std.proofs.Common.{◌≡◌, ℕ, ◌+◌, ◌<◌, ◌≤◌, max, List, [], ◌∷◌, Bool, true, false, ◌==◌, refl, sym, subst, arith}
+use Rattle.std.specs.Prelude.{if◌then◌else◌}
+use Rattle.std.proofs.lemmas.Bool.{eq-eqb, ne_eqb}
 use Rattle.sc_base.specs.declared.value.Value.{Value}
 use Rattle.sc_base.specs.declared.value.Place.{Place}
-use Rattle.sc_base.specs.declared.value.End.{End}
-use Rattle.sc_base.specs.declared.value.End.TheVariants.{Ended, Fault, Cut, Waiting}
 use Rattle.sc_isa.specs.declared.journal.Entry.{Entry}
 use Rattle.sc_isa.specs.declared.journal.Entry.TheVariants.{Issued, Delivered, Waited, Arrived, Passed, Finished}
-use Rattle.fabric.specs.Barriers.{arrivals, passes, released, stores_at, finished}
-use Rattle.fabric.specs.Wired.{Running, Going, Wired}
-use Rattle.fabric.proofs.Deciding.{decide_on, decide_eq, decide_lt}
+use Rattle.fabric.specs.Barriers.{arrivals, passes, released}
+use Rattle.fabric.specs.Wired.{Going, Wired}
+use Rattle.fabric.proofs.Deciding.{decide_eq}
 
 -- where the nodes stand
 pub record Stand (nodes : ℕ) (past : List Entry) (node : ℕ) : Type 0 where

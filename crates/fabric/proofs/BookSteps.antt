@@ -1,7 +1,7 @@
 -- The books stay those of the journal through arrivals, passes and finishes.
-use Rattle.std.proofs.Common.{◌≡◌, ◌≢◌, ◌⊎◌, ⊎_elim, ℕ, zero, suc, ◌+◌, ◌<◌, ◌≤◌, max, List, [], ◌∷◌, length, map, Option, Some, None, Bool, true, false, not, ◌&&◌, ◌||◌, ◌==◌, refl, sym, ap, ◌∙◌, subst, arith}
-use Rattle.std.specs.Prelude.{if◌then◌else◌, is_some, IsSome, IsTrue, nat_le, slice_index_or, slice_set}
-use Rattle.std.proofs.lemmas.Bool.{eq-eqb, ne_eqb, eqb-true, eqb-false, and_parts, or_cases, leb-true, leb-false, le-leb, lt-leb}
+use Rattle.std.proofs.Common.{◌≡◌, ℕ, zero, suc, ◌+◌, ◌<◌, ◌≤◌, max, List, [], ◌∷◌, length, map, Bool, true, ◌==◌, refl, sym, ap, ◌∙◌, subst, arith}
+use Rattle.std.specs.Prelude.{if◌then◌else◌, is_some, slice_index_or, slice_set}
+use Rattle.std.proofs.lemmas.Bool.{eq-eqb, ne_eqb, le-leb, lt-leb}
 use Rattle.sc_base.specs.declared.value.Value.{Value}
 use Rattle.sc_base.specs.declared.value.Place.{Place}
 use Rattle.sc_base.specs.declared.value.End.{End}
@@ -10,11 +10,11 @@ use Rattle.sc_isa.specs.declared.journal.Entry.TheVariants.{Arrived as Arrives, 
 use Rattle.sync_book.specs.declared.standing.Standing.{Standing}
 use Rattle.sync_book.specs.declared.standing.Standing.TheVariants.{Away, Arrived, Released}
 use Rattle.sync_book.specs.Book.{NodeBook, Book, fresh_node, node_at, with_node, is_arrived, released_node, after_release}
-use Rattle.fabric.specs.Barriers.{arrivals, passes, released, stores_at, finished}
-use Rattle.fabric.specs.Wired.{Running, Going, Wired}
+use Rattle.fabric.specs.Barriers.{arrivals, passes, released, finished}
+use Rattle.fabric.specs.Wired.{Going, Wired}
 use Rattle.fabric.specs.Books.{with_stores, standing_of, Stands}
-use Rattle.fabric.proofs.Deciding.{decide_on, decide_eq, decide_lt}
-use Rattle.fabric.proofs.Barrier.{Stand, stand}
+use Rattle.fabric.proofs.Deciding.{decide_eq, decide_lt}
+use Rattle.fabric.proofs.Barrier.{stand}
 
 -- ---- rows
 

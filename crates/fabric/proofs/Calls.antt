@@ -1,6 +1,6 @@
 -- What a fabric keeps stays through each call that moves no cell.
-use Rattle.std.proofs.Common.{◌≡◌, ◌⊎◌, inl, inr, ⊎_elim, ℕ, zero, suc, ◌+◌, ◌*◌, ◌-◌, map, ◌<◌, ◌≤◌, List, [], ◌∷◌, length, Option, Some, None, Bool, true, false, not, ◌&&◌, ◌||◌, refl, sym, ap, ◌∙◌, subst, arith}
-use Rattle.std.specs.Prelude.{is_some, IsSome, IsTrue, slice_index_or, cond}
+use Rattle.std.proofs.Common.{◌≡◌, inl, inr, ⊎_elim, ℕ, zero, suc, ◌+◌, ◌*◌, ◌-◌, map, ◌<◌, ◌≤◌, List, [], ◌∷◌, length, Some, None, Bool, true, false, not, refl, sym, ap, ◌∙◌, subst, arith}
+use Rattle.std.specs.Prelude.{is_some, slice_index_or, cond}
 use Rattle.std.specs.List.{list_any, list_all, position, position_or_len}
 use Rattle.std.proofs.lemmas.Bool.{and_from, or_left, or_right, lt-ltb}
 use Rattle.std.proofs.lemmas.List.Folds.{list_any_at}
@@ -9,15 +9,11 @@ use Rattle.sc_base.specs.declared.value.Place.{Place}
 use Rattle.sc_base.specs.declared.value.End.{End}
 use Rattle.sc_base.specs.declared.value.End.TheVariants.{Ended, Fault, Cut, Waiting as GaveUp}
 use Rattle.sc_isa.specs.declared.journal.Entry.{Entry}
-use Rattle.sc_isa.specs.declared.journal.Entry.TheVariants.{Waited, Arrived as Arrives, Passed, Finished}
-use Rattle.sync_book.specs.declared.standing.Standing.{Standing}
+use Rattle.sc_isa.specs.declared.journal.Entry.TheVariants.{Arrived as Arrives, Passed, Finished}
 use Rattle.sync_book.specs.declared.standing.Standing.TheVariants.{Away, Arrived, Released}
-use Rattle.sync_book.specs.Book.{NodeBook, Book, fresh_node, node_at, with_node, after_release, is_arrived, CanRelease, MayFinish, stands, is_settled, broken_by}
-use Rattle.fabric.specs.Barriers.{arrivals, passes, released, finished}
-use Rattle.fabric.specs.Effects.{awaited}
-use Rattle.fabric.specs.Flight.{in_flight}
-use Rattle.fabric.specs.Wired.{Running, Going, PassWired, StandsNext, IsBroken, EntryWired, Wired}
-use Rattle.fabric.specs.Books.{standing_of, Counts, Stands}
+use Rattle.sync_book.specs.Book.{NodeBook, fresh_node, node_at, with_node, after_release, is_arrived, CanRelease, MayFinish, stands, is_settled}
+use Rattle.fabric.specs.Wired.{Running, Going, StandsNext, IsBroken, EntryWired}
+use Rattle.fabric.specs.Books.{standing_of}
 use Rattle.fabric.specs.Reads.{Waiting}
 use Rattle.fabric.specs.Log.{Log}
 use Rattle.msg_pool.specs.declared.message.Message.{Message}
@@ -27,9 +23,9 @@ use Rattle.msg_pool.specs.Pool.{Pending}
 use Rattle.fabric.specs.State.{State, messages_of, start_of, nodes_of}
 use Rattle.fabric.specs.Kept.{IsOfJournal, AreAwaited, IsFabric, deliveries, deliveries_of}
 use Rattle.fabric.proofs.Barrier.{stand}
-use Rattle.fabric.proofs.BookSteps.{is_away, is_waiting, arrives, finishes, leaves, releases, length_map, mapped}
+use Rattle.fabric.proofs.BookSteps.{is_away, is_waiting, arrives, finishes, leaves, releases, length_map}
 use Rattle.fabric.proofs.Gaps.{all_next, pass_first, pass_later}
-use Rattle.fabric.proofs.Quiet.{SameCounts, with_row, released_rows, then_same, Quiet, kept_quiet, waiting_quiet}
+use Rattle.fabric.proofs.Quiet.{with_row, released_rows, then_same, Quiet, kept_quiet, waiting_quiet}
 
 le_same : (n : ℕ) → n ≤ n
 le_same n = omega arith

@@ -1,6 +1,6 @@
 -- What issuing a cell leaves, for each access and each placement of its ends.
-use Rattle.std.proofs.Common.{◌≡◌, ℕ, ◌+◌, ◌<◌, List, [], ◌∷◌, ◌++◌, Option, Some, None, Bool, true, false, refl, sym, ap, ◌∙◌, subst, add-zero}
-use Rattle.std.specs.Prelude.{nat_lt, slice_get, IsSomeAnd}
+use Rattle.std.proofs.Common.{◌≡◌, ℕ, ◌<◌, List, [], ◌∷◌, ◌++◌, Option, Some, None, true, false, refl, sym, ap, ◌∙◌, subst, add-zero}
+use Rattle.std.specs.Prelude.{slice_get, IsSomeAnd}
 use Rattle.std.specs.Option.{option_map}
 use Rattle.effect_order.specs.Lists.{Each}
 use Rattle.effect_order.proofs.Members.{each-append}
@@ -19,7 +19,7 @@ use Rattle.sc_layout.specs.Start.{start}
 use Rattle.msg_pool.specs.declared.message.Message.{Message}
 use Rattle.msg_pool.specs.declared.message.Part.TheVariants as part
 use Rattle.msg_pool.specs.Pool.{Pool}
-use Rattle.node_memory.specs.Memory.{Memory, Holds, cell as cell_of}
+use Rattle.node_memory.specs.Memory.{Memory, cell as cell_of}
 use Rattle.fabric.specs.Access.{transfer_of, track_of}
 use Rattle.fabric.specs.Effects.{due, cell_at_issue}
 use Rattle.fabric.specs.Flight.{message, carried}
@@ -29,7 +29,7 @@ use Rattle.fabric.specs.Issuing.{Untouched, HoldsAfter, CellIssued}
 use Rattle.fabric.proofs.Parts.{is_due}
 use Rattle.fabric.proofs.Cells.{read_effect, write_effect, due_read, due_write, due_after_read, due_after_write, holds_read, holds_write, cell_away, cell_over, cell_half, cell_whole}
 
-none_more : (ms : List Message) → ms ≡ ms ++ []
+pub none_more : (ms : List Message) → ms ≡ ms ++ []
 none_more [] = refl
 none_more (m ∷ ms) = ap (λ l. m ∷ l) (none_more ms)
 
@@ -102,7 +102,7 @@ write_away memory pool pool' node number place value track earlier away ms u h =
     (cell_away s (filling place value) node number 0 earlier e d away) d h ms
 
 -- what the cell holds is what the effects left there
-shown_is : (memory : Memory) (place : Place) (v : Value) (earlier : List Effect) → IsPlace memory.layout place → cell_of memory place ≡ Some v → HoldsAfter memory earlier
+pub shown_is : (memory : Memory) (place : Place) (v : Value) (earlier : List Effect) → IsPlace memory.layout place → cell_of memory place ≡ Some v → HoldsAfter memory earlier
     → held (start memory.layout) place earlier ≡ v
 shown_is memory place v earlier p is h = let both : Some v ≡ Some (held (start memory.layout) place earlier) = sym is ∙ h place p in cc
 
@@ -160,7 +160,7 @@ copy_here was is pool node number cell from to cells track v earlier within here
 pub each_one : (P : Message → Type 0) (ms ms' : List Message) (m : Message) → ms' ≡ ms ++ m ∷ [] → Each P ms → P m → Each P ms'
 each_one P ms ms' m is all own = subst (Each P) (sym is) (each-append P ms (m ∷ []) all (own, tt))
 
-moved_fits : (layout : Arrangement) (v : Value) (o q : Option LaidObject) → option_map (λ (x : LaidObject). x.shape.ty) o ≡ option_map (λ (x : LaidObject). x.shape.ty) q
+pub moved_fits : (layout : Arrangement) (v : Value) (o q : Option LaidObject) → option_map (λ (x : LaidObject). x.shape.ty) o ≡ option_map (λ (x : LaidObject). x.shape.ty) q
     → IsSomeAnd o (λ x. FitsType layout x.shape.ty v) → IsSomeAnd q (λ x. FitsType layout x.shape.ty v)
 moved_fits layout v None q e h = absurd h
 moved_fits layout v (Some x) None e h = cc

@@ -1,23 +1,19 @@
 -- What is due of a cell of which no part has occurred, and what then occurs with the issue.
-use Rattle.std.proofs.Common.{◌≡◌, ℕ, zero, suc, ◌+◌, ◌<◌, ◌≤◌, List, [], ◌∷◌, ◌++◌, Option, Some, None, Bool, true, false, ◌&&◌, ◌==◌, refl, sym, ap, ◌∙◌, subst, arith}
-use Rattle.std.specs.Prelude.{if◌then◌else◌, is_some, IsSome, nat_lt}
-use Rattle.std.proofs.lemmas.Bool.{eq-eqb, ne_eqb, lt-ltb}
+use Rattle.std.proofs.Common.{◌≡◌, ℕ, List, ◌∷◌, Option, Some, None, true, false, ◌&&◌, refl, sym, ap, ◌∙◌, subst}
+use Rattle.std.specs.Prelude.{if◌then◌else◌, is_some, IsSome}
+use Rattle.std.proofs.lemmas.Bool.{eq-eqb, ne_eqb}
 use Rattle.sc_base.specs.declared.value.Value.{Value}
 use Rattle.sc_base.specs.declared.value.Place.{Place}
 use Rattle.effect_order.specs.Effect.{Effect, held, same_place}
-use Rattle.effect_order.specs.Transfer.{Transfer, part_place, part_value, is_part}
+use Rattle.effect_order.specs.Transfer.{Transfer, part_place, part_value}
 use Rattle.effect_order.proofs.Equal.{place_is, place_self}
-use Rattle.sc_isa.specs.declared.access.Track.{Track}
-use Rattle.msg_pool.specs.declared.message.Message.{Message}
-use Rattle.msg_pool.specs.declared.message.Part.TheVariants as part
 use Rattle.sc_layout.specs.Place.{IsPlace}
 use Rattle.sc_layout.specs.Start.{start}
-use Rattle.node_memory.specs.Memory.{Memory, Holds, cell}
-use Rattle.fabric.specs.Effects.{due, occurs_on, cell_at_issue, writing, reading}
-use Rattle.fabric.specs.Flight.{message, carried}
+use Rattle.node_memory.specs.Memory.{Memory, cell}
+use Rattle.fabric.specs.Effects.{due, occurs_on, cell_at_issue, writing}
 use Rattle.fabric.specs.Issuing.{Untouched, HoldsAfter}
 use Rattle.fabric.proofs.Deciding.{decide_on}
-use Rattle.fabric.proofs.Parts.{due_is, due_with, written_with, IsDue, IsRead, IsWrite, is_due, due_of}
+use Rattle.fabric.proofs.Parts.{due_is, due_with, IsDue, IsRead, IsWrite, due_of}
 use Rattle.fabric.proofs.Keys.{value_of, value_kept}
 
 -- the effect of the cell's reading part, and of its writing part

@@ -1,13 +1,12 @@
 -- The cells of a copy are issued one after another.
-use Rattle.std.proofs.Common.{◌≡◌, ℕ, zero, suc, ◌+◌, ◌<◌, ◌≤◌, List, [], ◌∷◌, ◌++◌, append_assoc, Option, Some, None, Bool, refl, sym, ap, ◌∙◌, subst, arith}
+use Rattle.std.proofs.Common.{◌≡◌, ℕ, zero, suc, ◌+◌, ◌≤◌, List, ◌∷◌, ◌++◌, append_assoc, refl, sym, ap, ◌∙◌, subst, arith}
 use Rattle.sc_base.specs.declared.value.Value.{Value}
 use Rattle.sc_base.specs.declared.value.Place.{Place}
 use Rattle.effect_order.specs.Effect.{Effect}
-use Rattle.effect_order.specs.Transfer.{Transfer, part_value}
+use Rattle.effect_order.specs.Transfer.{Transfer}
 use Rattle.sc_isa.specs.declared.access.Access.{Access}
 use Rattle.sc_isa.specs.declared.access.Track.{Track}
 use Rattle.sc_layout.specs.Start.{start}
-use Rattle.msg_pool.specs.declared.message.Message.{Message}
 use Rattle.msg_pool.specs.Pool.{Pool}
 use Rattle.node_memory.specs.Memory.{Memory}
 use Rattle.fabric.specs.Access.{transfer_of, track_of}

@@ -1,7 +1,6 @@
 -- How many cells are outstanding is how many messages are in flight.
-use Rattle.std.proofs.Common.{◌≡◌, ℕ, zero, suc, ◌+◌, ◌<◌, ◌≤◌, List, [], ◌∷◌, ◌++◌, Option, Some, None, Bool, true, false, ◌&&◌, ◌==◌, refl, sym, ap, ◌∙◌, subst, arith}
-use Rattle.std.specs.Prelude.{if◌then◌else◌, is_some, IsSome}
-use Rattle.std.proofs.lemmas.Bool.{eq-eqb, eqb-true}
+use Rattle.std.proofs.Common.{◌≡◌, ℕ, zero, suc, ◌+◌, ◌<◌, List, [], ◌∷◌, ◌++◌, Option, Some, None, Bool, true, false, ◌&&◌, refl, sym, ap, ◌∙◌, subst, arith}
+use Rattle.std.specs.Prelude.{if◌then◌else◌, is_some}
 use Rattle.sc_base.specs.declared.value.Value.{Value}
 use Rattle.sc_base.specs.declared.value.Place.{Place}
 use Rattle.effect_order.specs.Effect.{Effect}
@@ -12,14 +11,14 @@ use Rattle.sc_isa.specs.declared.journal.Entry.{Entry}
 use Rattle.sc_isa.specs.declared.journal.Entry.TheVariants.{Issued, Delivered, Waited, Arrived, Passed, Finished}
 use Rattle.msg_pool.specs.declared.message.Message.{Message}
 use Rattle.fabric.specs.Access.{transfer_of, track_of}
-use Rattle.fabric.specs.Effects.{due, access_at, issues, at_issue, effects}
+use Rattle.fabric.specs.Effects.{due, access_at, effects}
 use Rattle.fabric.specs.Outstanding.{open_cells, open_in, outstanding}
-use Rattle.fabric.specs.Flight.{one_if, flying_count, message, part_of, carried, sent, is_for, without, back_from, returned, in_flight}
-use Rattle.fabric.specs.Wired.{Wired, DeliveryWired}
+use Rattle.fabric.specs.Flight.{one_if, flying_count, carried, sent, is_for, without, returned, in_flight}
+use Rattle.fabric.specs.Wired.{Wired}
 use Rattle.fabric.proofs.Deciding.{decide_on, decide_eq, decide_lt}
-use Rattle.fabric.proofs.Parts.{SameParts, open_same, due_past, is_due}
+use Rattle.fabric.proofs.Parts.{SameParts, open_same, due_past}
 use Rattle.fabric.proofs.Keys.{same_access, same_cell, access_apart, issue_same, due_same, accesses_are_one, same_access_self}
-use Rattle.fabric.proofs.Flying.{next_is_free, only, first_back, returned_is, cell_apart}
+use Rattle.fabric.proofs.Flying.{next_is_free, only, cell_apart}
 use Rattle.fabric.proofs.InFlight.{delivered_effects, back_is, expected, flying}
 
 pub count_append : (of : ℕ → Bool) (on : Track → Bool) (xs ys : List Message) → flying_count of on (xs ++ ys) ≡ flying_count of on xs + flying_count of on ys

@@ -1,5 +1,5 @@
 -- Cases on a test and on numbers, with what is tested first, so that each case knows it.
-use Rattle.std.proofs.Common.{◌≡◌, ◌⊎◌, ⊎_elim, ℕ, ◌<◌, ◌≤◌, Bool, true, false}
+use Rattle.std.proofs.Common.{◌≡◌, ⊎_elim, ℕ, ◌<◌, ◌≤◌, Bool, true, false}
 use Rattle.std.proofs.lemmas.Bool.{cases_Bool, cases_eq, cases_lt}
 
 pub decide_on : {P : Type 0} (b : Bool) → (b ≡ true → P) → (b ≡ false → P) → P

@@ -1,12 +1,10 @@
 -- A pending message is one of the journal's in flight: it carries the part that is due of its cell.
-use Rattle.std.proofs.Common.{◌≡◌, ℕ, zero, suc, ◌+◌, ◌<◌, ◌≤◌, List, [], ◌∷◌, ◌++◌, length, Option, Some, None, Bool, true, false, refl, sym, ap, ◌∙◌, subst, arith}
+use Rattle.std.proofs.Common.{◌≡◌, ℕ, List, [], ◌∷◌, ◌++◌, Option, Some, None, true, refl, sym, ap, ◌∙◌}
 use Rattle.std.specs.Prelude.{if◌then◌else◌}
 use Rattle.sc_base.specs.declared.value.Value.{Value}
 use Rattle.sc_base.specs.declared.value.Place.{Place}
-use Rattle.effect_order.specs.Effect.{Effect, held}
-use Rattle.effect_order.specs.Transfer.{Transfer}
+use Rattle.effect_order.specs.Effect.{Effect}
 use Rattle.sc_isa.specs.declared.access.Access.{Access}
-use Rattle.sc_isa.specs.declared.access.Track.{Track}
 use Rattle.sc_isa.specs.declared.journal.Entry.{Entry}
 use Rattle.sc_isa.specs.declared.journal.Entry.TheVariants.{Delivered}
 use Rattle.msg_pool.specs.declared.message.Message.{Message}

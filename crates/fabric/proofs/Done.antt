@@ -1,7 +1,7 @@
 -- No cell of a node's accesses is outstanding exactly where all their parts have occurred.
-use Rattle.std.proofs.Common.{◌≡◌, ◌≢◌, ◌⊎◌, inl, inr, ⊎_elim, ℕ, zero, suc, ◌+◌, ◌<◌, ◌≤◌, List, [], ◌∷◌, Option, Some, None, Bool, true, false, ◌&&◌, ◌==◌, refl, sym, ap, ◌∙◌, subst, arith}
+use Rattle.std.proofs.Common.{◌≡◌, ◌⊎◌, inl, inr, ⊎_elim, ℕ, zero, suc, ◌+◌, ◌<◌, List, [], ◌∷◌, Option, Some, None, Bool, true, false, ◌&&◌, ◌==◌, refl, sym, ap, ◌∙◌, subst, arith}
 use Rattle.std.specs.Prelude.{if◌then◌else◌, is_some, IsSome, nat_lt}
-use Rattle.std.proofs.lemmas.Bool.{eq-eqb, eqb-true, and_parts, and_from, and_left}
+use Rattle.std.proofs.lemmas.Bool.{eq-eqb, eqb-true, and_parts, and_from}
 use Rattle.sc_base.specs.declared.value.Value.{Value}
 use Rattle.sc_base.specs.declared.value.Place.{Place}
 use Rattle.effect_order.specs.Effect.{Effect}
@@ -12,11 +12,11 @@ use Rattle.sc_isa.specs.declared.access.Track.{Track}
 use Rattle.sc_isa.specs.declared.journal.Entry.{Entry}
 use Rattle.sc_isa.specs.declared.journal.Entry.TheVariants.{Issued, Delivered, Waited, Arrived, Passed, Finished}
 use Rattle.fabric.specs.Access.{transfer_of, track_of}
-use Rattle.fabric.specs.Effects.{due, access_at, issues, effects, writing}
+use Rattle.fabric.specs.Effects.{due, access_at, issues, effects}
 use Rattle.fabric.specs.Outstanding.{open_cells, open_in, outstanding}
 use Rattle.fabric.specs.Wired.{Wired, AllDone}
 use Rattle.fabric.proofs.Deciding.{decide_on, decide_eq, decide_lt}
-use Rattle.fabric.proofs.Parts.{due_is, due_with, written_with, place_past}
+use Rattle.fabric.proofs.Parts.{due_is, due_with, place_past}
 use Rattle.fabric.proofs.Keys.{same_access, accesses_are_one, same_access_self}
 use Rattle.fabric.proofs.Flying.{issued_below}
 use Rattle.fabric.specs.Flight.{one_if}

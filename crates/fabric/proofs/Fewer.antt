@@ -1,6 +1,6 @@
 -- The books count one message less after a delivery that is over.
 use Rattle.std.proofs.Common.{◌≡◌, ℕ, ◌+◌, ◌-◌, ◌<◌, ◌≤◌, List, length, Bool, true, false, ◌&&◌, ◌==◌, refl, sym, ap, ◌∙◌, subst, arith}
-use Rattle.std.specs.Prelude.{slice_set, slice_index_or, if◌then◌else◌}
+use Rattle.std.specs.Prelude.{slice_set, if◌then◌else◌}
 use Rattle.std.proofs.lemmas.Bool.{eq-eqb, eqb-true, and_parts}
 use Rattle.sc_isa.specs.declared.access.Track.{Track}
 use Rattle.sc_isa.specs.declared.access.Track.TheVariants.{Counter, Store, Covered}

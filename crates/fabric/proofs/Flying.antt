@@ -1,26 +1,22 @@
 -- In a journal that the fabric keeps, each cell has just the message in flight that carries the part that is due.
-use Rattle.std.proofs.Common.{◌≡◌, ◌⊎◌, inl, inr, ⊎_elim, ℕ, zero, suc, ◌+◌, ◌<◌, ◌≤◌, List, [], ◌∷◌, ◌++◌, Option, Some, None, Bool, true, false, ◌&&◌, ◌==◌, refl, sym, ap, ◌∙◌, subst, arith}
-use Rattle.std.specs.Prelude.{if◌then◌else◌, is_some, IsSome, nat_lt}
-use Rattle.std.proofs.lemmas.Bool.{eq-eqb, ne_eqb, eqb-true, cases_Bool, and_parts, and_left, cases_lt, false≢true}
+use Rattle.std.proofs.Common.{◌≡◌, ℕ, zero, suc, ◌+◌, ◌<◌, ◌≤◌, List, [], ◌∷◌, ◌++◌, Option, Some, None, Bool, true, false, ◌&&◌, ◌==◌, refl, sym, ap, ◌∙◌, subst, arith}
+use Rattle.std.specs.Prelude.{if◌then◌else◌}
+use Rattle.std.proofs.lemmas.Bool.{eq-eqb, ne_eqb}
 use Rattle.fabric.proofs.Deciding.{decide_on, decide_eq, decide_lt}
 use Rattle.sc_base.specs.declared.value.Value.{Value}
 use Rattle.sc_base.specs.declared.value.Place.{Place}
-use Rattle.effect_order.specs.Effect.{Effect, held}
-use Rattle.effect_order.specs.Transfer.{Transfer, part_place, part_value, is_part}
+use Rattle.effect_order.specs.Effect.{Effect}
+use Rattle.effect_order.specs.Transfer.{Transfer}
 use Rattle.sc_isa.specs.declared.access.Access.{Access}
-use Rattle.sc_isa.specs.declared.access.Access.TheVariants.{Read, Write, Copy}
 use Rattle.sc_isa.specs.declared.access.Track.{Track}
 use Rattle.sc_isa.specs.declared.journal.Entry.{Entry}
 use Rattle.sc_isa.specs.declared.journal.Entry.TheVariants.{Issued, Delivered, Waited, Arrived, Passed, Finished}
 use Rattle.msg_pool.specs.declared.message.Message.{Message}
-use Rattle.msg_pool.specs.declared.message.Part.{Part}
-use Rattle.msg_pool.specs.declared.message.Part.TheVariants as part
-use Rattle.fabric.specs.Access.{transfer_of, track_of}
-use Rattle.fabric.specs.Effects.{due, access_at, issues, at_issue, at_delivery, and_effect, effects}
-use Rattle.fabric.specs.Flight.{message, part_of, carried, sent, is_for, without, back_from, returned, in_flight}
-use Rattle.fabric.specs.Wired.{Wired, IssueWired, DeliveryWired}
-use Rattle.fabric.proofs.Parts.{IsOff, IsOf, IsDue, IsRead, IsWrite, SameParts, carried_same, due_past, is_due, due_is, due_of, due_with, written_with}
-use Rattle.fabric.proofs.Keys.{same_access, same_cell, access_apart, issue_same, due_same, cells_are_one, accesses_are_one, same_access_self, same_cell_self, value_of, value_kept, issue_keeps}
+use Rattle.fabric.specs.Effects.{due, access_at, issues}
+use Rattle.fabric.specs.Flight.{carried, sent, is_for, without, back_from, returned}
+use Rattle.fabric.specs.Wired.{Wired}
+use Rattle.fabric.proofs.Parts.{due_past}
+use Rattle.fabric.proofs.Keys.{same_access, same_cell, access_apart, cells_are_one, accesses_are_one, same_cell_self}
 
 -- ---- numbers
 

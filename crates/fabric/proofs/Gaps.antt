@@ -1,27 +1,25 @@
 -- What the books say of the next release is what the journal says.
-use Rattle.std.proofs.Common.{◌≡◌, ◌≢◌, ◌⊎◌, inl, inr, ⊎_elim, ◌↔◌, ℕ, zero, suc, ◌+◌, ◌<◌, ◌≤◌, List, [], ◌∷◌, length, map, Option, Some, None, Bool, true, false, not, ◌&&◌, ◌||◌, ◌==◌, refl, sym, ap, ◌∙◌, subst, arith}
-use Rattle.std.specs.Prelude.{if◌then◌else◌, is_some, IsSome, IsTrue, nat_le, slice_index_or, count_by, cond}
-use Rattle.std.specs.List.{list_any, list_all, position}
-use Rattle.std.proofs.lemmas.Bool.{eq-eqb, ne_eqb, eqb-true, eqb-false, and_parts, and_from, or_cases, or_left, or_right}
+use Rattle.std.proofs.Common.{◌≡◌, ⊎_elim, ℕ, zero, suc, ◌+◌, ◌<◌, ◌≤◌, List, [], ◌∷◌, length, Bool, true, false, not, ◌&&◌, ◌||◌, ◌==◌, refl, sym, ap, ◌∙◌, subst, arith}
+use Rattle.std.specs.Prelude.{if◌then◌else◌, slice_index_or, count_by, cond}
+use Rattle.std.specs.List.{list_any}
+use Rattle.std.proofs.lemmas.Bool.{eq-eqb, ne_eqb, eqb-true, and_parts, or_cases}
 use Rattle.std.proofs.lemmas.List.Sums.{sum_by-cons}
 use Rattle.sc_base.specs.declared.value.Value.{Value}
 use Rattle.sc_base.specs.declared.value.Place.{Place}
-use Rattle.sc_base.specs.declared.value.End.{End}
 use Rattle.sc_isa.specs.declared.access.Track.{Track}
 use Rattle.sc_isa.specs.declared.journal.Entry.{Entry}
 use Rattle.sc_isa.specs.declared.journal.Entry.TheVariants.{Issued, Delivered, Waited, Arrived as Arrives, Passed, Finished}
 use Rattle.msg_pool.specs.declared.message.Message.{Message}
 use Rattle.sync_book.specs.declared.standing.Standing.{Standing}
 use Rattle.sync_book.specs.declared.standing.Standing.TheVariants.{Away, Arrived, Released}
-use Rattle.sync_book.specs.Book.{NodeBook, Book, fresh_node, node_at, is_arrived, waits_for_stores, gap_of, CanRelease, stands, is_settled, broken_by}
-use Rattle.fabric.specs.Access.{is_counter, is_store, is_covered}
-use Rattle.fabric.specs.Barriers.{arrivals, passes, released, stores_at, finished}
-use Rattle.fabric.specs.Outstanding.{outstanding}
+use Rattle.sync_book.specs.Book.{NodeBook, Book, fresh_node, node_at, is_arrived, waits_for_stores, CanRelease}
+use Rattle.fabric.specs.Access.{is_store, is_covered}
+use Rattle.fabric.specs.Barriers.{arrivals, passes, released, stores_at}
 use Rattle.fabric.specs.Flight.{flying_count, one_if, in_flight}
-use Rattle.fabric.specs.Wired.{AllDone, Running, Going, PassWired, StandsNext, IsBroken, Wired}
+use Rattle.fabric.specs.Wired.{AllDone, Running, PassWired, Wired}
 use Rattle.fabric.specs.Books.{with_stores, standing_of, Counts, Stands}
-use Rattle.fabric.proofs.Deciding.{decide_on, decide_eq, decide_lt}
-use Rattle.fabric.proofs.Barrier.{Stand, stand}
+use Rattle.fabric.proofs.Deciding.{decide_on}
+use Rattle.fabric.proofs.Barrier.{stand}
 use Rattle.fabric.proofs.BookSteps.{Where, AtNone, LetGo, AtNext, where_is, arrived_next, is_waiting}
 use Rattle.fabric.proofs.Counting.{outstanding_flies}
 use Rattle.fabric.proofs.Done.{all_done}

@@ -1,11 +1,10 @@
 -- In a journal that the fabric keeps, each cell has in flight just the message of the part that is due.
-use Rattle.std.proofs.Common.{◌≡◌, ◌⊎◌, inl, inr, ⊎_elim, ℕ, zero, suc, ◌+◌, ◌<◌, ◌≤◌, List, [], ◌∷◌, ◌++◌, Option, Some, None, Bool, true, false, ◌&&◌, ◌==◌, refl, sym, ap, ◌∙◌, subst, arith}
+use Rattle.std.proofs.Common.{◌≡◌, ℕ, List, [], ◌∷◌, ◌++◌, Option, Some, None, Bool, true, false, refl, sym, ap, ◌∙◌, subst}
 use Rattle.std.specs.Prelude.{if◌then◌else◌, is_some, IsSome, nat_lt}
-use Rattle.std.proofs.lemmas.Bool.{cases_Bool, cases_lt, false≢true}
-use Rattle.fabric.proofs.Deciding.{decide_on, decide_eq, decide_lt}
+use Rattle.fabric.proofs.Deciding.{decide_on, decide_eq}
 use Rattle.sc_base.specs.declared.value.Value.{Value}
 use Rattle.sc_base.specs.declared.value.Place.{Place}
-use Rattle.effect_order.specs.Effect.{Effect, held}
+use Rattle.effect_order.specs.Effect.{Effect}
 use Rattle.effect_order.specs.Transfer.{Transfer, part_place, part_value}
 use Rattle.sc_isa.specs.declared.access.Access.{Access}
 use Rattle.sc_isa.specs.declared.access.Access.TheVariants.{Read, Write, Copy}
@@ -15,11 +14,11 @@ use Rattle.sc_isa.specs.declared.journal.Entry.TheVariants.{Issued, Delivered, W
 use Rattle.msg_pool.specs.declared.message.Message.{Message}
 use Rattle.msg_pool.specs.declared.message.Part.TheVariants as part
 use Rattle.fabric.specs.Access.{transfer_of, track_of}
-use Rattle.fabric.specs.Effects.{due, access_at, issues, at_issue, effects}
+use Rattle.fabric.specs.Effects.{due, access_at, effects}
 use Rattle.fabric.specs.Flight.{message, part_of, carried, sent, without, back_from, returned, in_flight}
 use Rattle.fabric.specs.Wired.{Wired, DeliveryWired}
-use Rattle.fabric.proofs.Parts.{IsDue, IsRead, IsWrite, SameParts, carried_same, due_past, is_due, due_is, due_of, due_with, written_with}
-use Rattle.fabric.proofs.Keys.{same_access, same_cell, access_apart, issue_same, due_same, cells_are_one, accesses_are_one, same_access_self, same_cell_self, value_of, value_kept, issue_keeps}
+use Rattle.fabric.proofs.Parts.{IsDue, IsRead, IsWrite, SameParts, carried_same, is_due, due_is, due_of, due_with}
+use Rattle.fabric.proofs.Keys.{same_access, same_cell, access_apart, issue_same, due_same, cells_are_one, accesses_are_one, value_of, value_kept, issue_keeps}
 use Rattle.fabric.proofs.Flying.{next_is_free, only, only_append, only_without_same, only_without_other, first_back, returned_is, sent_apart, sent_all, cell_apart, carried_one, carried_apart}
 
 -- ---- reads come first

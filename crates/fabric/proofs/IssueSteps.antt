@@ -1,5 +1,5 @@
 -- What a fabric keeps stays through an issue.
-use Rattle.std.proofs.Common.{◌≡◌, ℕ, zero, suc, ◌+◌, ◌*◌, ◌-◌, ◌<◌, ◌≤◌, List, [], ◌∷◌, ◌++◌, length, Option, Some, None, Bool, refl, sym, ap, ◌∙◌, subst, arith}
+use Rattle.std.proofs.Common.{◌≡◌, ℕ, zero, suc, ◌+◌, ◌*◌, ◌-◌, ◌<◌, ◌≤◌, List, [], ◌∷◌, ◌++◌, length, Option, Some, None, refl, sym, ap, ◌∙◌, subst, arith}
 use Rattle.sc_base.specs.declared.value.Value.{Value}
 use Rattle.sc_base.specs.declared.value.Place.{Place}
 use Rattle.effect_order.specs.Effect.{Effect, held}
@@ -19,19 +19,18 @@ use Rattle.sc_isa.specs.declared.journal.Entry.TheVariants.{Issued}
 use Rattle.msg_pool.specs.declared.message.Message.{Message}
 use Rattle.msg_pool.specs.declared.message.Part.{Part}
 use Rattle.msg_pool.specs.declared.message.Part.TheVariants as part
-use Rattle.msg_pool.specs.Pool.{Pool, Pending}
+use Rattle.msg_pool.specs.Pool.{Pool}
 use Rattle.node_memory.specs.Memory.{Memory, Holds as HoldsIn}
 use Rattle.sync_book.specs.Book.{Book, outstanding_on, with_outstanding, all_outstanding}
 use Rattle.fabric.specs.Access.{transfer_of, track_of}
-use Rattle.fabric.specs.Barriers.{finished, arrivals, passes}
-use Rattle.fabric.specs.Effects.{due, at_issue, effects, issues}
+use Rattle.fabric.specs.Effects.{due, effects, issues}
 use Rattle.fabric.specs.Flight.{carried, sent, in_flight}
 use Rattle.fabric.specs.Wired.{Going, Wired}
 use Rattle.fabric.specs.Books.{Counts, Stands}
 use Rattle.fabric.specs.Reads.{Waiting}
 use Rattle.fabric.specs.Log.{Log}
 use Rattle.fabric.specs.State.{State, messages_of, start_of, nodes_of, IsTrack, IsPlaced, need_of}
-use Rattle.fabric.specs.Kept.{IsOfJournal, IsReady, AreAwaited, IsFabric, deliveries, deliveries_of}
+use Rattle.fabric.specs.Kept.{IsReady, AreAwaited, IsFabric, deliveries, deliveries_of}
 use Rattle.fabric.specs.Issuing.{HoldsAfter, CellsIssued, CanSendMany, AtMost}
 use Rattle.fabric.proofs.Calls.{count_messages}
 use Rattle.fabric.proofs.Sums.{AllOf, More, more_sent, counts_more}
@@ -52,7 +51,7 @@ all_sent start t node number track later (suc c) =
     all_append node track (sent start t node number track later c) (carried t node number c track (due start t node number c later))
     (all_sent start t node number track later c) (all_carried t node number c track (due start t node number c later))
 
-deliveries_both : (xs ys : List Message) → deliveries (xs ++ ys) ≡ deliveries xs + deliveries ys
+pub deliveries_both : (xs ys : List Message) → deliveries (xs ++ ys) ≡ deliveries xs + deliveries ys
 deliveries_both [] ys = omega arith
 deliveries_both (x ∷ xs) ys = omega (arith, deliveries_both xs ys)
 
@@ -65,7 +64,7 @@ few_deliveries : (ms : List Message) → deliveries ms ≤ length ms * 2
 few_deliveries [] = omega arith
 few_deliveries (m ∷ ms) = (let d = at_most_two m.part in omega (arith, d, few_deliveries ms))
 
-length_both : (ms ns : List Message) → length (ms ++ ns) ≡ length ms + length ns
+pub length_both : (ms ns : List Message) → length (ms ++ ns) ≡ length ms + length ns
 length_both [] ns = omega arith
 length_both (m ∷ ms) ns = omega (arith, length_both ms ns)
 
@@ -132,7 +131,7 @@ at_least_one (part.Read from None) = omega arith
 at_least_one (part.Read from (Some to)) = omega arith
 at_least_one (part.Write to value) = omega arith
 
-some_deliveries : (ms : List Message) → length ms ≤ deliveries ms
+pub some_deliveries : (ms : List Message) → length ms ≤ deliveries ms
 some_deliveries [] = omega arith
 some_deliveries (m ∷ ms) = (let d = at_least_one m.part in omega (arith, d, some_deliveries ms))
 

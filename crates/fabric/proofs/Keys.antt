@@ -1,14 +1,13 @@
 -- What an issue or a delivery adds is of its own access: the parts of other accesses stay.
-use Rattle.std.proofs.Common.{◌≡◌, ◌⊎◌, inl, inr, ⊎_elim, ℕ, zero, suc, ◌+◌, ◌<◌, ◌≤◌, List, [], ◌∷◌, Option, Some, None, Bool, true, false, ◌&&◌, ◌==◌, refl, sym, ap, ◌∙◌, subst, arith}
-use Rattle.std.specs.Prelude.{if◌then◌else◌, is_some, IsSome, nat_lt}
-use Rattle.std.proofs.lemmas.Bool.{eq-eqb, ne_eqb, eqb-true, cases_Bool, and_parts, and_left, and_right}
-use Rattle.fabric.proofs.Deciding.{decide_on, decide_eq, decide_lt}
+use Rattle.std.proofs.Common.{◌≡◌, ℕ, zero, suc, List, ◌∷◌, Option, Some, None, Bool, true, false, ◌&&◌, ◌==◌, refl, ap, ◌∙◌}
+use Rattle.std.specs.Prelude.{if◌then◌else◌}
+use Rattle.std.proofs.lemmas.Bool.{eq-eqb, eqb-true, and_parts, and_left, and_right}
 use Rattle.sc_base.specs.declared.value.Value.{Value}
 use Rattle.sc_base.specs.declared.value.Place.{Place}
 use Rattle.effect_order.specs.Effect.{Effect}
-use Rattle.effect_order.specs.Transfer.{Transfer, part_place, part_value, is_part, same_flag}
-use Rattle.fabric.specs.Effects.{due, occurs_on, cell_at_issue, at_issue, and_effect}
-use Rattle.fabric.proofs.Parts.{IsOff, IsOf, IsDue, SameParts, off_same, same_refl, same_trans, is_due, due_of}
+use Rattle.effect_order.specs.Transfer.{Transfer, part_value, is_part, same_flag}
+use Rattle.fabric.specs.Effects.{due, occurs_on, cell_at_issue, at_issue}
+use Rattle.fabric.proofs.Parts.{IsOff, IsOf, SameParts, off_same, same_refl, same_trans, is_due, due_of}
 
 -- the two accesses are one
 abbrev pub same_access : (p n node number : ℕ) → Bool

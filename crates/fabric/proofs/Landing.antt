@@ -1,11 +1,10 @@
 -- What a fabric keeps stays through a wait, whose answers are the values of the reads that it awaits.
-use Rattle.std.proofs.Common.{◌≡◌, ℕ, suc, ◌+◌, ◌-◌, ◌<◌, ◌≤◌, List, [], ◌∷◌, length, map, Bool, true, false, not, ◌&&◌, ◌==◌, refl, sym, ap, ◌∙◌, subst, arith}
-use Rattle.std.specs.Prelude.{if◌then◌else◌, cond}
+use Rattle.std.proofs.Common.{◌≡◌, ℕ, suc, ◌+◌, ◌-◌, ◌<◌, ◌≤◌, List, [], ◌∷◌, length, map, Bool, true, false, not, ◌&&◌, ◌==◌, refl, sym, ap, ◌∙◌, subst}
+use Rattle.std.specs.Prelude.{cond}
 use Rattle.std.specs.List.{filter}
-use Rattle.std.proofs.lemmas.Bool.{and_parts, eqb-true, eq-eqb}
+use Rattle.std.proofs.lemmas.Bool.{and_parts, eqb-true}
 use Rattle.sc_base.specs.declared.value.Value.{Value}
 use Rattle.sc_base.specs.declared.value.Place.{Place}
-use Rattle.effect_order.specs.Effect.{Effect}
 use Rattle.effect_order.specs.Lists.{Each}
 use Rattle.effect_order.proofs.Members.{each-map}
 use Rattle.effect_order.specs.Transfer.{part_value}
@@ -14,11 +13,9 @@ use Rattle.sc_isa.specs.declared.journal.Entry.TheVariants.{Waited}
 use Rattle.fabric.specs.declared.reads.Awaited.{Awaited}
 use Rattle.sync_book.specs.Book.{outstanding as in_books}
 use Rattle.fabric.specs.Access.{is_counter}
-use Rattle.fabric.specs.Effects.{access_at, awaited, effects, or_zero, landed}
+use Rattle.fabric.specs.Effects.{awaited, effects, or_zero, landed}
 use Rattle.fabric.specs.Outstanding.{outstanding}
-use Rattle.fabric.specs.Flight.{in_flight}
-use Rattle.fabric.specs.Wired.{Going, WaitWired}
-use Rattle.fabric.specs.Books.{Counts, Stands}
+use Rattle.fabric.specs.Wired.{Going}
 use Rattle.fabric.specs.Reads.{Waiting, is_on, reads_on, reads_off, values_in}
 use Rattle.fabric.specs.Log.{Log}
 use Rattle.fabric.specs.State.{State, start_of, nodes_of}

@@ -22,3 +22,5 @@ pub mod IssueSteps
 pub mod Counted
 pub mod Fewer
 pub mod Delivering
+pub mod DeliverySteps
+pub mod Beginning

@@ -1,15 +1,14 @@
 -- The parts of a cell: which comes next depends only on which of the two have occurred, and on what was read.
-use Rattle.std.proofs.Common.{◌≡◌, ℕ, zero, suc, ◌<◌, ◌≤◌, List, [], ◌∷◌, Option, Some, None, Bool, true, false, ◌&&◌, ◌==◌, refl, sym, ap, ◌∙◌, subst, arith}
-use Rattle.std.specs.Prelude.{if◌then◌else◌, is_some, IsSome, nat_lt}
-use Rattle.std.proofs.lemmas.Bool.{eq-eqb, le-ltb, lt-ltb}
+use Rattle.std.proofs.Common.{◌≡◌, ℕ, ◌≤◌, List, ◌∷◌, Option, Some, None, Bool, true, false, refl, sym, ap, ◌∙◌}
+use Rattle.std.specs.Prelude.{is_some, IsSome}
+use Rattle.std.proofs.lemmas.Bool.{le-ltb}
 use Rattle.sc_base.specs.declared.value.Value.{Value}
 use Rattle.sc_base.specs.declared.value.Place.{Place}
 use Rattle.effect_order.specs.Effect.{Effect, held}
-use Rattle.effect_order.specs.Transfer.{Transfer, part_place, part_value, is_part, or_read, cell_past, side}
+use Rattle.effect_order.specs.Transfer.{Transfer, part_place, part_value, is_part, or_read}
 use Rattle.sc_isa.specs.declared.access.Track.{Track}
-use Rattle.msg_pool.specs.declared.message.Message.{Message}
 use Rattle.fabric.specs.Effects.{due, reading, writing, unless_occurred, or_else}
-use Rattle.fabric.specs.Flight.{carried, message}
+use Rattle.fabric.specs.Flight.{carried}
 
 -- the effect is of no part of the cell
 pub record IsOff (node number cell : ℕ) (e : Effect) : Type 0 where

@@ -1,30 +1,27 @@
 -- What a fabric keeps stays through entries that change no cell and no message.
-use Rattle.std.proofs.Common.{◌≡◌, ℕ, zero, suc, ◌+◌, ◌-◌, ◌<◌, ◌≤◌, List, [], ◌∷◌, length, map, sum, Bool, false, refl, sym, ap, ◌∙◌, subst, arith}
+use Rattle.std.proofs.Common.{◌≡◌, ℕ, ◌+◌, ◌-◌, ◌<◌, ◌≤◌, List, [], ◌∷◌, length, map, sum, false, refl, sym, ap, ◌∙◌, subst, arith}
 use Rattle.std.specs.Prelude.{sum_by, slice_set, slice_index_or}
 use Rattle.std.proofs.lemmas.List.Sums.{sum_by-cons, sum_by-set}
 use Rattle.sc_base.specs.declared.value.Value.{Value}
 use Rattle.sc_base.specs.declared.value.Place.{Place}
-use Rattle.effect_order.specs.Effect.{Effect, held}
+use Rattle.effect_order.specs.Effect.{held}
 use Rattle.effect_order.specs.Lists.{Each}
 use Rattle.effect_order.proofs.Members.{each-map}
-use Rattle.sc_isa.specs.declared.access.Access.{Access}
 use Rattle.sc_isa.specs.declared.journal.Entry.{Entry}
-use Rattle.sc_isa.specs.declared.journal.Entry.TheVariants.{Waited, Arrived, Passed, Finished}
 use Rattle.msg_pool.specs.declared.message.Message.{Message}
 use Rattle.node_memory.specs.Memory.{Holds}
 use Rattle.sync_book.specs.Book.{NodeBook, Book, fresh_node, node_at, with_node, outstanding, all_outstanding, released_node, after_release}
 use Rattle.fabric.specs.declared.reads.Awaited.{Awaited}
-use Rattle.fabric.specs.Access.{is_counter, is_store, is_covered}
 use Rattle.effect_order.specs.Transfer.{part_value}
 use Rattle.fabric.specs.Effects.{access_at, awaited, effects, or_zero}
-use Rattle.fabric.specs.Flight.{in_flight, flying_count}
-use Rattle.fabric.specs.Wired.{EntryWired, Wired}
+use Rattle.fabric.specs.Flight.{in_flight}
+use Rattle.fabric.specs.Wired.{EntryWired}
 use Rattle.fabric.specs.Books.{Counts, Stands}
 use Rattle.fabric.specs.Reads.{Waiting}
 use Rattle.fabric.specs.Log.{Log}
 use Rattle.fabric.specs.State.{State, messages_of, start_of, nodes_of}
-use Rattle.fabric.specs.Kept.{IsOfJournal, IsReady, IsRead, AreAwaited, IsFabric, deliveries}
-use Rattle.fabric.proofs.Deciding.{decide_on, decide_eq, decide_lt}
+use Rattle.fabric.specs.Kept.{IsOfJournal, IsReady, IsRead, AreAwaited, IsFabric}
+use Rattle.fabric.proofs.Deciding.{decide_eq}
 use Rattle.fabric.proofs.BookSteps.{at_same, at_other, length_set, length_map, mapped}
 
 -- ---- books with the same counts

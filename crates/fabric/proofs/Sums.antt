@@ -1,11 +1,11 @@
 -- The books count the messages through an issue and a delivery.
-use Rattle.std.proofs.Common.{◌≡◌, ℕ, zero, suc, ◌+◌, ◌-◌, ◌<◌, ◌≤◌, List, [], ◌∷◌, ◌++◌, length, Bool, true, false, ◌&&◌, ◌==◌, refl, sym, ap, ◌∙◌, subst, arith}
+use Rattle.std.proofs.Common.{◌≡◌, ℕ, zero, suc, ◌+◌, ◌<◌, ◌≤◌, List, [], ◌∷◌, ◌++◌, length, Bool, true, false, ◌&&◌, ◌==◌, refl, sym, ap, ◌∙◌, subst, arith}
 use Rattle.std.specs.Prelude.{slice_set, slice_index_or, if◌then◌else◌}
 use Rattle.std.proofs.lemmas.Bool.{eq-eqb, eqb-true, and_parts}
 use Rattle.sc_isa.specs.declared.access.Track.{Track}
 use Rattle.sc_isa.specs.declared.access.Track.TheVariants.{Counter, Store, Covered}
 use Rattle.msg_pool.specs.declared.message.Message.{Message}
-use Rattle.sync_book.specs.Book.{NodeBook, Book, fresh_node, node_at, with_node, outstanding, outstanding_on, with_outstanding, all_outstanding}
+use Rattle.sync_book.specs.Book.{NodeBook, Book, node_at, with_node, outstanding, outstanding_on, with_outstanding, all_outstanding}
 use Rattle.fabric.specs.Access.{is_counter, is_store, is_covered}
 use Rattle.fabric.specs.Flight.{one_if, flying_count}
 use Rattle.fabric.specs.Books.{Counts}

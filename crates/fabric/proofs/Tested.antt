@@ -1,22 +1,22 @@
 -- The test of what the fabric keeps is exact.
-use Rattle.std.proofs.Common.{◌≡◌, ◌≢◌, ◌⊎◌, ◌↔◌, inl, inr, ⊎_elim, ℕ, zero, suc, ◌+◌, ◌<◌, ◌≤◌, List, [], ◌∷◌, Option, Some, None, Bool, true, false, not, ◌&&◌, ◌||◌, ◌==◌, refl, sym, ap, ◌∙◌, subst, arith}
-use Rattle.std.specs.Prelude.{is_some, is_none, IsSome, nat_lt, nat_le}
-use Rattle.std.proofs.lemmas.Bool.{eq-eqb, eqb-true, and_parts, and_from, or_cases, or_left, or_right, ltb-true, lt-ltb, leb-true, le-leb, cases_Bool}
+use Rattle.std.proofs.Common.{◌≡◌, inl, inr, ⊎_elim, ℕ, zero, suc, ◌+◌, ◌<◌, ◌≤◌, List, [], ◌∷◌, Option, Some, None, Bool, true, not, ◌&&◌, ◌||◌, ◌==◌, refl, sym, ap, ◌∙◌, subst, arith}
+use Rattle.std.specs.Prelude.{is_some, is_none, nat_lt, nat_le}
+use Rattle.std.proofs.lemmas.Bool.{eq-eqb, eqb-true, and_parts, and_from, or_cases, or_left, or_right, ltb-true, lt-ltb, leb-true, le-leb}
 use Rattle.sc_base.specs.declared.value.Value.{Value}
 use Rattle.sc_base.specs.declared.value.Place.{Place}
 use Rattle.sc_base.specs.declared.value.End.{End}
 use Rattle.sc_base.specs.declared.value.End.TheVariants.{Ended, Fault, Cut, Waiting}
-use Rattle.effect_order.specs.Effect.{Effect, same_value}
+use Rattle.effect_order.specs.Effect.{Effect}
 use Rattle.effect_order.proofs.Equal.{value_is, value_self}
 use Rattle.sc_isa.specs.declared.access.Access.{Access}
 use Rattle.sc_isa.specs.declared.access.Track.{Track}
 use Rattle.sc_isa.specs.declared.journal.Entry.{Entry}
 use Rattle.sc_isa.specs.declared.journal.Entry.TheVariants.{Issued, Delivered, Waited, Arrived, Passed, Finished}
-use Rattle.fabric.specs.Access.{transfer_of, is_counter, is_store, is_covered}
-use Rattle.fabric.specs.Effects.{due, access_at, issues, effects, at_delivery}
+use Rattle.fabric.specs.Access.{is_counter, is_store, is_covered}
+use Rattle.fabric.specs.Effects.{access_at, issues, effects, at_delivery}
 use Rattle.fabric.specs.Barriers.{arrivals, passes, released, stores_at, finished}
 use Rattle.fabric.specs.Outstanding.{outstanding}
-use Rattle.fabric.specs.Wired.{AllDone, Running, Going, IssueWired, DeliveryWired, WaitWired, PassWired, StandsNext, IsBroken, WaitingWired, EntryWired, Wired}
+use Rattle.fabric.specs.Wired.{AllDone, Running, Going, DeliveryWired, PassWired, IsBroken, EntryWired, Wired}
 use Rattle.fabric.specs.WiredTest.{all_below, any_below, is_running, is_going, has_value, is_delivery, is_done, is_landed, is_clear, is_pass, stands_next, is_broken, entry_wired, wired}
 use Rattle.fabric.proofs.Deciding.{decide_on, decide_eq, decide_lt}
 use Rattle.fabric.proofs.Done.{all_done, done_all}

@@ -1,6 +1,6 @@
 -- Which answer a wait and a barrier give: after the split-phase accesses and barriers of "Introduction to Split-C"
 -- (Culler and others, 1995).
-use Rattle.std.specs.Prelude.{◌≡◌, ℕ, ◌+◌, ◌<◌, ◌==◌, ◌&&◌, ◌||◌, if◌then◌else◌, Option, Some, None, Bool, true, false}
+use Rattle.std.specs.Prelude.{ℕ, ◌+◌, ◌<◌, ◌==◌, ◌&&◌, ◌||◌, if◌then◌else◌, Option, Some, None, Bool, true, false}
 use Rattle.sync_book.specs.declared.gap.Gap.{Gap}
 use Rattle.sync_book.specs.declared.standing.Standing.{Standing}
 use Rattle.sync_book.specs.declared.standing.Standing.TheVariants.{Released}

@@ -1,7 +1,7 @@
 -- What a journal says: the accesses issued, the effects of their parts in the order in which they occur, and what a
 -- wait is answered, for accesses by messages as in "Active Messages" (von Eicken and others, 1992). A past is a list of
 -- entries, the newest first.
-use Rattle.std.specs.Prelude.{ℕ, zero, suc, pos, ◌+◌, List, [], ◌∷◌, ◌++◌, map, Option, Some, None, Bool, true, false, ◌==◌, ◌&&◌, if◌then◌else◌}
+use Rattle.std.specs.Prelude.{ℕ, zero, suc, pos, ◌+◌, List, [], ◌∷◌, ◌++◌, map, Option, Some, None, true, false, ◌==◌, ◌&&◌, if◌then◌else◌}
 use Rattle.sc_base.specs.declared.value.Value.{Value}
 use Rattle.sc_base.specs.declared.value.Value.TheVariants.{Int}
 use Rattle.sc_base.specs.declared.value.Place.{Place}

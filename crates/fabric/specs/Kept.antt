@@ -8,18 +8,15 @@ use Rattle.effect_order.specs.Lists.{Each}
 use Rattle.effect_order.specs.Transfer.{part_value}
 use Rattle.sc_layout.specs.Layout.{Arrangement}
 use Rattle.sc_layout.specs.Place.{IsPlace, Fits}
-use Rattle.sc_layout.specs.Start.{start}
 use Rattle.sc_isa.specs.declared.access.Access.TheVariants.{Read}
-use Rattle.sc_isa.specs.declared.access.Track.{Track}
 use Rattle.sc_isa.specs.declared.access.Track.TheVariants.{Counter}
 use Rattle.sc_isa.specs.declared.journal.Entry.{Entry}
 use Rattle.msg_pool.specs.declared.message.Message.{Message}
 use Rattle.msg_pool.specs.declared.message.Part.{Part}
 use Rattle.msg_pool.specs.declared.message.Part.TheVariants as part
-use Rattle.node_memory.specs.Memory.{Memory, Holds}
-use Rattle.sync_book.specs.Book.{Book}
+use Rattle.node_memory.specs.Memory.{Holds}
 use Rattle.fabric.specs.declared.reads.Awaited.{Awaited}
-use Rattle.fabric.specs.Effects.{access_at, awaited, effects, or_zero, issues}
+use Rattle.fabric.specs.Effects.{access_at, awaited, effects, or_zero}
 use Rattle.fabric.specs.Flight.{in_flight}
 use Rattle.fabric.specs.Wired.{Wired}
 use Rattle.fabric.specs.Books.{Counts, Stands}

@@ -1,10 +1,9 @@
 -- Laws of journals.
-use Rattle.std.specs.Prelude.{◌≡◌, ◌↔◌, ℕ, List, Option, Some, None, Bool, true, ◌==◌}
+use Rattle.std.specs.Prelude.{◌≡◌, ◌↔◌, ℕ, List, Bool, true, ◌==◌}
 use Rattle.sc_base.specs.declared.value.Value.{Value}
 use Rattle.sc_base.specs.declared.value.Place.{Place}
 use Rattle.sc_isa.specs.declared.access.Track.{Track}
 use Rattle.sc_isa.specs.declared.journal.Entry.{Entry}
-use Rattle.fabric.specs.Effects.{effects}
 use Rattle.fabric.specs.Outstanding.{outstanding}
 use Rattle.fabric.specs.Flight.{in_flight, flying_count}
 use Rattle.fabric.specs.Wired.{Wired, AllDone}

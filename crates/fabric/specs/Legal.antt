@@ -1,6 +1,6 @@
 -- The legal and complete journals of a machine, and what a run shows in the end, as an execution is in Shasha and Snir
 -- (1988): an interleaving of what the nodes ask and of what the memory does.
-use Rattle.std.specs.Prelude.{ℕ, ◌<◌, List, [], ◌∷◌, reverse, IsSome}
+use Rattle.std.specs.Prelude.{ℕ, ◌<◌, List, reverse, IsSome}
 use Rattle.sc_isa.specs.declared.journal.Entry.{Entry}
 use Rattle.fabric.specs.Access.{any_track}
 use Rattle.fabric.specs.Barriers.{finished}

@@ -15,3 +15,4 @@ pub mod Kept
 pub mod Log
 pub mod Causes
 pub mod Issuing
+pub mod Delivering

@@ -1,6 +1,6 @@
 -- How many cells of the accesses issued have a part still to occur, as a counter of outstanding requests has it in the
 -- split accesses of "Introduction to Split-C" (Culler and others, 1995). A past is a list of entries, the newest first.
-use Rattle.std.specs.Prelude.{ℕ, zero, suc, ◌+◌, List, [], ◌∷◌, is_some, Bool, ◌==◌, ◌&&◌, if◌then◌else◌}
+use Rattle.std.specs.Prelude.{ℕ, zero, suc, ◌+◌, List, [], ◌∷◌, is_some, Bool, ◌&&◌, if◌then◌else◌}
 use Rattle.sc_base.specs.declared.value.Value.{Value}
 use Rattle.sc_base.specs.declared.value.Place.{Place}
 use Rattle.effect_order.specs.Effect.{Effect}

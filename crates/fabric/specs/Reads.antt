@@ -1,5 +1,5 @@
 -- The reads that waits will answer, in order of issue, each with its value as far as that is known.
-use Rattle.std.specs.Prelude.{ℕ, List, [], ◌∷◌, Bool, not, ◌==◌, ◌&&◌, if◌then◌else◌, map}
+use Rattle.std.specs.Prelude.{ℕ, List, Bool, not, ◌==◌, ◌&&◌, if◌then◌else◌, map}
 use Rattle.std.specs.List.{filter}
 use Rattle.sc_base.specs.declared.value.Value.{Value}
 use Rattle.fabric.specs.declared.reads.Awaited.{Awaited}

@@ -17,7 +17,7 @@ use sc_base::{Place, Value};
 use sc_isa::Track;
 
 /// Puts the message last.
-fn send(pool: &mut MsgPool, message: Message)
+pub(crate) fn send(pool: &mut MsgPool, message: Message)
     requires { IsSendable pool.old message }
     ensures { Sends pool.old pool.new message }
 {

@@ -3,6 +3,7 @@
 
 mod answers;
 mod barriers;
+mod deliveries;
 mod issuing;
 pub mod laws;
 pub mod log;

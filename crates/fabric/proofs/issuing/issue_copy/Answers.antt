@@ -1,5 +1,4 @@
-use Rattle.std.proofs.Common.{◌≡◌, ◌+◌, ◌∙◌, suc, add-one, sym, subst, arith, List}
-use Rattle.effect_order.specs.Effect.{Effect}
+use Rattle.std.proofs.Common.{◌∙◌, add-one, sym, subst}
 use Rattle.effect_order.specs.Lists.{Each}
 use Rattle.sc_layout.specs.Layout.{Arrangement}
 use Rattle.sc_layout.specs.Start.{start}
@@ -9,7 +8,7 @@ use Rattle.fabric.specs.Access.{transfer_of}
 use Rattle.fabric.specs.Effects.{at_issue}
 use Rattle.fabric.specs.State.{messages_of}
 use Rattle.fabric.specs.Kept.{IsReady}
-use Rattle.fabric.specs.Issuing.{CellsIssued, AtMost}
+use Rattle.fabric.specs.Issuing.{CellsIssued}
 use Rattle.fabric.proofs.Copying.{next_cell, still_untouched, one_more}
 use Rattle.fabric.proofs.issuing.issue_copy.Goals as goal
 

@@ -1,6 +1,5 @@
 use Rattle.std.proofs.Common.{sym, subst}
 use Rattle.sc_isa.specs.declared.access.Access.{Access}
-use Rattle.sc_isa.specs.declared.access.Access.TheVariants.{Copy}
 use Rattle.fabric.specs.Access.{transfer_of, track_of}
 use Rattle.fabric.specs.State.{IsCopy, IsPlaced, IsTrack}
 use Rattle.fabric.specs.Issuing.{CellsIssued}

@@ -1,4 +1,4 @@
-use Rattle.std.proofs.Common.{◌≡◌, ◌≤◌, ◌+◌, ◌*◌, length, sym, subst, arith}
+use Rattle.std.proofs.Common.{◌≤◌, ◌+◌, ◌*◌, length, sym, subst, arith}
 use Rattle.msg_pool.specs.Pool.{Pool}
 use Rattle.fabric.specs.State.{State}
 use Rattle.fabric.specs.Kept.{IsFabric}
