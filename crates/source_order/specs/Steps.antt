@@ -1,0 +1,114 @@
+-- The own steps of the nodes of a run: what each entry of a journal is for the source, and its number among the node's
+-- requests. Explicit and blocking accesses are those of "Introduction to Split-C" (Culler and others, 1995). A past is
+-- a list of entries, the newest first.
+use Rattle.std.specs.Prelude.{ℕ, ◌+◌, List, [], ◌∷◌, ◌++◌, Option, Some, None, Bool, true, false, not, ◌==◌, ◌&&◌, nat_lt, if◌then◌else◌}
+use Rattle.sc_base.specs.declared.value.CopyMode.{CopyMode}
+use Rattle.sc_base.specs.declared.value.CopyMode.TheVariants.{Blocking, Split, OneWay}
+use Rattle.sc_meaning.specs.declared.request.Request.{Request}
+use Rattle.sc_meaning.specs.declared.request.Request.TheVariants.{Read as ReadRequest, Write as WriteRequest, Get, Put, Store as StoreRequest, Copy as CopyRequest, Sync, Barrier, AllStoreSync}
+use Rattle.sc_meaning.specs.History.{barrier_of}
+use Rattle.sc_isa.specs.declared.access.Access.{Access}
+use Rattle.sc_isa.specs.declared.access.Access.TheVariants.{Read, Write, Copy}
+use Rattle.sc_isa.specs.declared.access.Track.{Track}
+use Rattle.sc_isa.specs.declared.access.Track.TheVariants.{Counter, Store, Covered}
+use Rattle.sc_isa.specs.declared.journal.Entry.{Entry}
+use Rattle.sc_isa.specs.declared.journal.Entry.TheVariants.{Issued, Waited, Arrived, Finished}
+
+-- an access on counter 0 or as a store is explicit, every other blocks
+abbrev pub is_blocking : Track → Bool
+is_blocking (Counter c) = not (c == 0)
+is_blocking Store = false
+is_blocking Covered = true
+
+abbrev pub is_split : Track → Bool
+is_split (Counter c) = c == 0
+is_split _ = false
+
+-- a blocking read or write, which is one event of the source
+abbrev pub is_done_at_once : Access → Bool
+is_done_at_once (Read place track) = is_blocking track
+is_done_at_once (Write place value track) = is_blocking track
+is_done_at_once (Copy from to cells track) = false
+
+abbrev pub mode_of : Track → CopyMode
+mode_of (Counter c) = if c == 0 then Split else Blocking
+mode_of Store = OneWay
+mode_of Covered = Blocking
+
+abbrev pub written_as : Track → Request → Request → Request → Request
+written_as (Counter c) blocking split one_way = if c == 0 then split else blocking
+written_as Store blocking split one_way = one_way
+written_as Covered blocking split one_way = blocking
+
+-- the request that an access is, with line 0: a journal has no lines
+abbrev pub request_in : Access → Request
+request_in (Read place track) = if is_blocking track then ReadRequest place 0 else Get place 0
+request_in (Write place value track) = written_as track (WriteRequest place value 0) (Put place value 0) (StoreRequest place value 0)
+request_in (Copy from to cells track) = CopyRequest from to cells (mode_of track) 0
+
+-- the request with line 0
+abbrev pub unlined : Request → Request
+unlined (ReadRequest place line) = ReadRequest place 0
+unlined (WriteRequest place value line) = WriteRequest place value 0
+unlined (Get place line) = Get place 0
+unlined (Put place value line) = Put place value 0
+unlined (StoreRequest place value line) = StoreRequest place value 0
+unlined (CopyRequest from to cells mode line) = CopyRequest from to cells mode 0
+unlined (Sync line) = Sync 0
+unlined (Barrier line) = Barrier 0
+unlined (AllStoreSync line) = AllStoreSync 0
+
+-- what the entry requests of the source on this node: issues, waits for explicit accesses, and arrivals do
+abbrev pub request_by : ℕ → Entry → Option Request
+request_by node (Issued other number access) = if other == node then Some (request_in access) else None
+request_by node (Waited other counter) = if (other == node) && (counter == 0) then Some (Sync 0) else None
+request_by node (Arrived other stores) = if other == node then Some (barrier_of stores 0) else None
+request_by node _ = None
+
+abbrev pub and_request : List Request → Option Request → List Request
+and_request requests None = requests
+and_request requests (Some request) = requests ++ request ∷ []
+
+-- the requests of the node, in order
+abbrev pub own_requests : ℕ → List Entry → List Request
+own_requests node [] = []
+own_requests node (entry ∷ past) = and_request (own_requests node past) (request_by node entry)
+
+abbrev pub count_one : Option Request → ℕ → ℕ
+count_one None n = n
+count_one (Some request) n = n + 1
+
+-- how many they are
+abbrev pub requested : ℕ → List Entry → ℕ
+requested node [] = 0
+requested node (entry ∷ past) = count_one (request_by node entry) (requested node past)
+
+-- the number among the node's requests of its issue with this number
+abbrev pub request_of : (node number : ℕ) → List Entry → ℕ
+request_of node number [] = 0
+request_of node number (Issued other n access ∷ past) =
+    if (other == node) && (n == number) then requested node past else request_of node number past
+request_of node number (_ ∷ past) = request_of node number past
+
+-- the track of the node's access with this number among its requests
+abbrev pub track_at : (node request : ℕ) → List Entry → Option Track
+track_at node request [] = None
+track_at node request (Issued other n (Read place track) ∷ past) =
+    if (other == node) && (requested node past == request) then Some track else track_at node request past
+track_at node request (Issued other n (Write place value track) ∷ past) =
+    if (other == node) && (requested node past == request) then Some track else track_at node request past
+track_at node request (Issued other n (Copy from to cells track) ∷ past) =
+    if (other == node) && (requested node past == request) then Some track else track_at node request past
+track_at node request (_ ∷ past) = track_at node request past
+
+-- how many of the node's first requests, so many of them, are arrivals at barriers
+abbrev pub arrivals_among : (node first : ℕ) → List Entry → ℕ
+arrivals_among node first [] = 0
+arrivals_among node first (Arrived other stores ∷ past) =
+    if (other == node) && nat_lt (requested node past) first then arrivals_among node first past + 1 else arrivals_among node first past
+arrivals_among node first (_ ∷ past) = arrivals_among node first past
+
+-- the node finishes
+abbrev pub finishes : ℕ → Entry → Bool
+finishes node (Finished other end) = other == node
+finishes node _ = false

@@ -1,0 +1,2 @@
+//! The source order of a run: its steps put into an order of the source.
+#![tactic(auto)]
