@@ -1,6 +1,6 @@
--- What is to be proved of the source order, after Shasha and Snir (1988): where what has to come before what has no cycle, it is a whole history of
--- the processes with the outcome of the run; and where each blocking access is over before its node's next own step, time
--- alone shows that there is no cycle.
+-- The order theorem, after Shasha and Snir (1988): where what has to come before what has no cycle, the source order is a
+-- whole history of the processes, with the outcome of the run; and where each blocking access is over before its node's
+-- next own step, time alone shows that there is no cycle.
 use Rattle.std.specs.Prelude.{ℕ, List, [], ◌∷◌, reverse, IsSome}
 use Rattle.sc_base.specs.declared.value.Place.{Place}
 use Rattle.sc_base.specs.declared.value.Value.{Value}

@@ -1,6 +1,6 @@
--- When a run's nodes made the requests of some processes, as a simulation between two transition systems (Milner, 1971): each
--- node's own steps in the journal are the requests of its run under the answers that the journal shows, with the same
--- bytes and the same end.
+-- When a run's nodes made the requests of some processes, as a simulation between two transition systems (Milner, 1971):
+-- each node's own steps in the journal are the requests of its process under the answers that the journal shows, with the
+-- same bytes and the same end.
 use Rattle.std.specs.Prelude.{◌≡◌, ℕ, ◌<◌, List, [], ◌∷◌, map, Option, Some, None, false, ◌==◌, ◌&&◌, if◌then◌else◌}
 use Rattle.sc_base.specs.declared.value.Place.{Place}
 use Rattle.sc_base.specs.declared.value.End.{End}

@@ -1,6 +1,6 @@
--- The moments of a run, by which the conflict order of Shasha and Snir (1988) is read: each entry of a journal takes one, and after it each effect that occurs with it. Own steps
--- happen at the moment of their entry, effects at their own, and a release with the first passing of its barrier. A
--- past is a list of entries, the newest first.
+-- The moments of a run, by which the conflict order of Shasha and Snir (1988) is read: each entry of a journal takes one,
+-- and after it each effect that occurs with it. Own steps happen at the moment of their entry, effects at their own, and a
+-- release with the first passing of its barrier. A past is a list of entries, the newest first.
 use Rattle.std.specs.Prelude.{ℕ, suc, ◌+◌, List, [], ◌∷◌, length, ltb, is_some, Bool, false, ◌==◌, ◌&&◌, ◌||◌, nat_lt, if◌then◌else◌}
 use Rattle.std.specs.Option.{option_map_or}
 use Rattle.sc_base.specs.declared.value.Place.{Place}
