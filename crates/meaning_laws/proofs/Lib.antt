@@ -1,0 +1,5 @@
+pub mod Decided
+pub mod Requests
+pub mod Which
+pub mod Exact
+pub mod CompleteExact
