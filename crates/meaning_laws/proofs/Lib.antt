@@ -3,3 +3,4 @@ pub mod Requests
 pub mod Which
 pub mod Exact
 pub mod CompleteExact
+pub mod Fronts
