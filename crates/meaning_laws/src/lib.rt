@@ -1,0 +1,9 @@
+//! Laws of what a source means: of the tests of its histories, and of what they show of its nodes. Each is the contract
+//! of a public function with an empty body; nothing of it runs.
+#![tactic(auto)]
+
+pub mod histories;
+pub mod tests_are_exact;
+
+pub use histories::{end_is_of_the_run, events_are_a_front, events_are_numbered, events_extend};
+pub use tests_are_exact::{complete_test_is_exact, test_is_exact};
