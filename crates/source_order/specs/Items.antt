@@ -1,5 +1,5 @@
 -- The source order of a run: its own steps, releases and effects as events of the source, and again and again the first
--- of them that the source allows and before which no conflicting earlier effect is left, after the program order and
+-- of them that the source allows and before which no conflicting earlier effect is left, after the processes order and
 -- the conflict order of Shasha and Snir (1988). A past is a list of entries or events, the newest first.
 use Rattle.std.specs.Prelude.{ℕ, zero, suc, List, [], ◌∷◌, ◌++◌, reverse, map, Bool, true, not, ◌==◌, ◌&&◌, if◌then◌else◌}
 use Rattle.sc_base.specs.declared.value.Place.{Place}
@@ -56,7 +56,7 @@ is_turn past order _ = true
 
 -- after these events the source allows the event, where it is its node's next one
 abbrev pub may_follow : Processes → List Entry → List SourceEvent → SourceEvent → Bool
-may_follow processes past order event = allowed program order event && is_turn past order event
+may_follow processes past order event = allowed processes order event && is_turn past order event
 
 -- the source order of a run of the processes, in the order of its events
 abbrev pub source_order : Processes → List Entry → List SourceEvent

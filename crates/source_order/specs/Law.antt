@@ -16,6 +16,7 @@ use Rattle.source_order.specs.Steps.{is_blocking, request_by}
 use Rattle.source_order.specs.Items.{items, source_order}
 use Rattle.source_order.specs.Needs.{NoCycle}
 use Rattle.source_order.specs.Made.{IsMade}
+use Rattle.source_order.specs.Answering.{AllWaitForAnswers}
 
 -- every item is taken, once, and nothing else
 pub record TakesAll (all order : List SourceEvent) : Type 0 where
@@ -29,11 +30,11 @@ pub record IsOrdered (processes : Processes) (machine : Machine) (journal : List
   pub history : IsHistory processes (source_order processes journal)
   pub same : SameOutcome processes.nodes (run_outcome machine journal) (outcome processes (source_order processes journal))
 
--- The order theorem: legal, complete, the same outcome, and everything taken.
+-- The order theorem, for processes that wait for what is answered: legal, complete, the same outcome, and everything taken.
 abbrev pub OrderHolds : Type 0
 OrderHolds =
     (processes : Processes) (machine : Machine) (journal : List Entry)
-    → IsRun machine journal → IsMade processes machine (reverse journal)
+    → AllWaitForAnswers processes → IsRun machine journal → IsMade processes machine (reverse journal)
     → NoCycle processes.start processes.nodes (reverse journal) → IsOrdered processes machine journal
 
 -- Before each request of a node its blocking accesses are over. A node may finish earlier: nothing comes after an end.

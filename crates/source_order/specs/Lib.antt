@@ -6,3 +6,4 @@ pub mod Made
 pub mod Law
 pub mod Story
 pub mod Whole
+pub mod Answering

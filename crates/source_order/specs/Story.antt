@@ -21,6 +21,7 @@ use Rattle.source_order.specs.Moments.{does, sooner, time, issue_time}
 use Rattle.source_order.specs.Items.{items, may_follow, source_order}
 use Rattle.source_order.specs.Needs.{needs, NoCycle}
 use Rattle.source_order.specs.Made.{IsMade}
+use Rattle.source_order.specs.Answering.{AllWaitForAnswers}
 
 abbrev pub is_effect : SourceEvent → Bool
 is_effect (Do node k wrote place value) = true
@@ -79,7 +80,7 @@ IsThatOrder flow point =
 abbrev pub ItemsAreOrderable : Type 0
 ItemsAreOrderable =
     (processes : Processes) (machine : Machine) (journal : List Entry)
-    → IsRun machine journal → IsMade processes machine (reverse journal)
+    → AllWaitForAnswers processes → IsRun machine journal → IsMade processes machine (reverse journal)
     → NoCycle processes.start processes.nodes (reverse journal)
     → Orderable does processes.start (sooner processes.start (reverse journal)) (needs (reverse journal))
     (may_follow processes (reverse journal)) (items processes.start processes.nodes (reverse journal))
