@@ -133,7 +133,7 @@ module _ (processes : Processes) (whole : List Entry) (known : Known processes w
           let it = subst (λ u. It processes whole known (Sync u k)) o.1 t.2 in
           let rq = if_true ((p == p) && (0 == 0)) (Some (SyncRequest 0)) None (both_self p 0) in
           let h = subst (λ u. slice_get (A processes whole known p within) u ≡ Some (Landed (got p (E processes whole known) (awaited p 0 it.0)))) (sym (needed_before processes whole known p within it.0 (Waited p 0) (SyncRequest 0) it.1 rq))
-              (sync_answer processes.start processes.nodes (E processes whole known) p it.0 whole known.wired it.1) in
+          (sync_answer processes.start processes.nodes (E processes whole known) p it.0 whole known.wired it.1) in
           let nw = needed_with processes whole known p within it.0 (Waited p 0) (SyncRequest 0) it.1 rq in
           let same_landed = landed_same processes whole known p within past t.3 (begun processes whole known p within past i) it.0 it.1 (sym n ∙ sym it.2) (before it.0 (Waited p 0) whole it.1)
           (subst (λ u. AllDone processes is_split u past) o.1 t.0.all_done) in

@@ -59,8 +59,8 @@ module _ (processes : Processes) (whole : List Entry) (known : Known processes w
   pub whole_run : (given rest : List Answer) → answers_in (E processes whole known) p whole ≡ given ++ rest → Needed processes whole known p (requested p whole) ≤ length given → run_of (processes.starts p) given ≡ Full processes whole known p
   whole_run given rest e l =
       let f : asks (length (run_of (processes.starts p) (given ++ rest)).events) (run_of (processes.starts p) (given ++ rest)).events ≤ length given =
-          subst (λ u. asks (length (run_of (processes.starts p) u).events) (run_of (processes.starts p) u).events ≤ length given) e
-          (subst (λ u. asks u (Full processes whole known p).events ≤ length given) (sym full_length) l) in
+      subst (λ u. asks (length (run_of (processes.starts p) u).events) (run_of (processes.starts p) u).events ≤ length given) e
+      (subst (λ u. asks u (Full processes whole known p).events ≤ length given) (sym full_length) l) in
       sym (same_run (processes.starts p) (known.waits p n) given rest f) ∙ sym (ap (run_of (processes.starts p)) e)
 
   -- ---- ends other than as waiting
