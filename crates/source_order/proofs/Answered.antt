@@ -23,7 +23,7 @@ use Rattle.fabric.specs.Wired.{EntryWired, Wired}
 use Rattle.source_order.specs.Steps.{request_by, request_in, count_one, requested, is_blocking, and_request, own_requests}
 use Rattle.source_order.specs.Answering.{is_answered}
 use Rattle.source_order.specs.Made.{answer_of_issue, answer_by, answers_in}
-use Rattle.source_order.proofs.Stands.{Stands, wired_at, requested_one, own_length}
+use Rattle.source_order.proofs.Stands.{Stands, wired_at, own_length}
 use Rattle.source_order.proofs.Asked.{one_if, asks, asks_front, asks_next}
 use Rattle.source_order.proofs.Numbers.{eq_self, if_true, issued_is, both_self}
 use Rattle.source_order.proofs.Occurs.{not_some, some_from}

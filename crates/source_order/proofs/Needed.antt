@@ -1,10 +1,9 @@
 -- How many of a node's first requests are answered, by its run and by the journal.
-use Rattle.std.proofs.Common.{◌≡◌, ℕ, suc, ◌+◌, ◌<◌, ◌≤◌, List, [], ◌∷◌, ◌++◌, length, map, Option, Some, None, true, false, refl, sym, ap, ◌∙◌, subst, inl, inr, arith}
-use Rattle.std.specs.Prelude.{slice_get}
+use Rattle.std.proofs.Common.{◌≡◌, ℕ, suc, ◌+◌, ◌<◌, ◌≤◌, List, [], ◌∷◌, length, Option, Some, None, refl, sym, ap, ◌∙◌, subst, inl, inr, arith}
 use Rattle.sc_meaning.specs.declared.request.Request.{Request}
 use Rattle.sc_meaning.specs.Past.{Processes}
 use Rattle.sc_isa.specs.declared.journal.Entry.{Entry}
-use Rattle.source_order.specs.Steps.{request_by, and_request, own_requests, requested, unlined}
+use Rattle.source_order.specs.Steps.{request_by, and_request, own_requests, requested}
 use Rattle.source_order.specs.Answering.{is_answered}
 use Rattle.source_order.proofs.Stands.{Stands, own_length, own_at, requested_below}
 use Rattle.source_order.proofs.Asked.{one_if, asks, asks_front, asks_next, asks_unlined}

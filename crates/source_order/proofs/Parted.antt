@@ -1,5 +1,5 @@
 -- The parts of transfers among items taken: they have the values of the run, and are over where all of them were taken.
-use Rattle.std.proofs.Common.{◌≡◌, ℕ, suc, ◌<◌, ◌≤◌, List, [], ◌∷◌, ◌++◌, length, Some, None, Bool, true, false, refl, sym, ap, ◌∙◌, subst, arith, ltb-true, lt-ltb}
+use Rattle.std.proofs.Common.{◌≡◌, ℕ, ◌<◌, ◌≤◌, List, [], ◌∷◌, ◌++◌, length, Some, None, Bool, true, false, refl, sym, ap, ◌∙◌, subst, ltb-true, lt-ltb}
 use Rattle.std.specs.Prelude.{if◌then◌else◌, IsSome, nat_lt, slice_get}
 use Rattle.std.proofs.lemmas.Bool.{both_ways}
 use Rattle.sc_base.specs.declared.value.Place.{Place}

@@ -1,5 +1,5 @@
 -- A run under the first answers has the first requests of the run under all of them.
-use Rattle.std.proofs.Common.{◌≡◌, ℕ, zero, suc, ◌+◌, ◌≤◌, List, [], ◌∷◌, ◌++◌, length, Some, Bool, true, false, refl, sym, ap, subst, arith}
+use Rattle.std.proofs.Common.{◌≡◌, ℕ, zero, suc, ◌≤◌, List, [], ◌∷◌, ◌++◌, length, Bool, true, false, refl, ap, arith}
 use Rattle.std.specs.Prelude.{if◌then◌else◌, slice_get}
 use Rattle.resumption.specs.Resumption.{Asks, Makes, Says, Stops, RunOf, unanswered, after_event, after_text, run_of}
 use Rattle.sc_meaning.specs.declared.request.Request.{Request}

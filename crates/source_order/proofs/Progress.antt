@@ -1,5 +1,5 @@
 -- How far a node has come along items taken as the source allows, and how far it is after one more.
-use Rattle.std.proofs.Common.{◌≡◌, ℕ, zero, suc, ◌+◌, ◌<◌, ◌≤◌, List, [], ◌∷◌, ◌++◌, length, Option, Some, None, Bool, true, false, ◌==◌, refl, sym, ap, ◌∙◌, subst, inl, inr, ⊎_elim, arith, length-append}
+use Rattle.std.proofs.Common.{◌≡◌, ℕ, zero, suc, ◌+◌, ◌<◌, ◌≤◌, List, [], ◌∷◌, ◌++◌, length, Option, Some, None, Bool, true, false, ◌==◌, refl, sym, ap, ◌∙◌, subst, ⊎_elim, arith, length-append}
 use Rattle.std.specs.Prelude.{IsSome, slice_get, if◌then◌else◌}
 use Rattle.std.proofs.lemmas.Bool.{cases_lt}
 use Rattle.effect_order.specs.Effect.{Effect as CellEffect}
@@ -22,7 +22,7 @@ use Rattle.fabric.specs.Access.{transfer_of}
 use Rattle.source_order.specs.Steps.{is_blocking, request_in, requested, own_requests, is_done_at_once, arrivals_among}
 use Rattle.source_order.specs.Made.{answers_in, answer_of_issue}
 use Rattle.source_order.proofs.Stands.{Stands}
-use Rattle.source_order.proofs.Numbers.{eq_self, if_true, if_false, issued_is, among_before, among_with}
+use Rattle.source_order.proofs.Numbers.{eq_self, if_true, issued_is, among_before, among_with}
 use Rattle.source_order.proofs.Occurs.{not_some, some_from}
 use Rattle.source_order.proofs.Answered.{issue_answer}
 use Rattle.source_order.proofs.Character.{IsAccess}

@@ -1,7 +1,7 @@
 -- Which requests are answered, and processes that ask by these alone: reads that block, syncs and barriers are answered, and
 -- every other request of "Introduction to Split-C" (Culler and others, 1995) goes on at once.
 use Rattle.std.specs.Prelude.{◌≡◌, ℕ, ◌<◌, Bool, true, false}
-use Rattle.resumption.specs.Resumption.{Doing, Asks, Makes, Says, Stops}
+use Rattle.resumption.specs.Resumption.{Asks, Makes, Says, Stops}
 use Rattle.sc_meaning.specs.declared.request.Request.{Request}
 use Rattle.sc_meaning.specs.declared.request.Request.TheVariants.{Read, Sync, Barrier, AllStoreSync}
 use Rattle.sc_meaning.specs.Asking.{SourceDoing}
