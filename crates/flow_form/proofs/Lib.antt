@@ -1,0 +1,6 @@
+mod Parts
+mod ExampleBranch
+mod ExampleCalls
+mod ExampleLoops
+mod ExampleTransfers
+mod ExampleForms
