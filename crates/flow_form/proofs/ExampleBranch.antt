@@ -14,7 +14,7 @@ use Rattle.flow_form.specs.FlowOf.{flow_of}
 use Rattle.flow_form.proofs.Parts.{number, two, by, element, dropped, acting, acting_on, function, program_of, M, point, plain, returning, access, to, site}
 
 abbrev source : Program
-source = program_of (function 0 (
+source = program_of (function 0 1 (
     acting (Clear 0 false) ∷
     choose false (by Eq (constant Mine) (number 0)) (acting_on (Fill 0) (element 0 (number 1)))
     (dropped (two Write (element 0 (number 0)) (number 1))) ∷ []) ∷ []) 0

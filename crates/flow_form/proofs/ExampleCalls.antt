@@ -12,19 +12,19 @@ use Rattle.site_graph.specs.Graph.{Graph}
 use Rattle.flow_form.specs.FlowOf.{flow_of}
 use Rattle.flow_form.proofs.Parts.{number, one, two, use_, by, own, dropped, block, function, program_of, M, point, plain, returning, access, to, site}
 
-abbrev source : Program
+abbrev pub source : Program
 source = program_of (
-    function 1 (
+    function 1 0 (
     loop None (choose false (use_ 0) nothing break) (block (
     choose false (by Eq (use_ 0) (number 1)) break nothing ∷
     dropped (one (does.Set 0) (by Sub (use_ 0) (number 1))) ∷
     continue ∷ [])) nothing ∷
     return (use_ 0) 1 ∷ []) ∷
-    function 0 (
+    function 0 0 (
     dropped (two does.Write (own 0)
     (by Add (one (does.Call 0 1) (number 1)) (one (does.Call 0 1) (one does.Read (own 0))))) ∷ []) ∷ []) 1
 
-abbrev flow : Graph
+abbrev pub flow : Graph
 flow = record {
   points =
       point Start 1 [] [] None ∷

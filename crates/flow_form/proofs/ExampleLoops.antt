@@ -16,14 +16,14 @@ use Rattle.flow_form.proofs.Parts.{number, one, use_, by, element, own, dropped,
 
 -- int A[9]::; int B;
 -- splitc_main() { int i; for_my_1d(i, 9) { if (A[i]) continue; A[i + 1] += B; } }
-abbrev source : Program
-source = program_of (function 0 (
+abbrev pub source : Program
+source = program_of (function 0 1 (
     acting (Clear 0 false) ∷
     mine_loop (Local 0) (number 9) (block (
     choose false (one does.Read (element 0 (use_ 0))) continue nothing ∷
     dropped (update (element 0 (by Add (use_ 0) (number 1))) (does.Binary Add) (one does.Read (own 1)) None 1) ∷ [])) 1 ∷ []) ∷ []) 0
 
-abbrev flow : Graph
+abbrev pub flow : Graph
 flow = record {
   points =
       point Start 0 [] [] None ∷ plain 0 [] ∷ point Plain 0 [] [] (Some 0) ∷
@@ -54,15 +54,15 @@ is_its_flow = refl
 -- A loop that only a `break` leaves, whose body is two statements of which the second is never reached; a `do` whose
 -- test follows; and a postfix `++` through a pointer that is kept in an array.
 -- int *global P[4]::;
--- splitc_main() { for (;;) { break; ; return; } do continue; while (1); int x = (*P[0])++; }
-abbrev source_2 : Program
-source_2 = program_of (function 0 (
+-- splitc_main() { for (;;) { break; ; return; } do continue; while (0); int x = (*P[0])++; }
+abbrev pub source_2 : Program
+source_2 = program_of (function 0 1 (
     loop None nothing (block (break ∷ nothing ∷ return (number 0) 1 ∷ [])) nothing ∷
-    loop None nothing continue (choose false (number 1) nothing break) ∷
+    loop None nothing continue (choose false (number 0) nothing break) ∷
     acting_on (Begin 0)
     (update (one does.Read (element 0 (number 0))) (does.Binary Add) (number 1) (Some (does.Binary Sub)) 1) ∷ []) ∷ []) 0
 
-abbrev flow_2 : Graph
+abbrev pub flow_2 : Graph
 flow_2 = record {
   points =
       point Start 0 [] [] None ∷ plain 0 [] ∷
@@ -88,14 +88,14 @@ is_its_flow_2 = refl
 
 -- A test whose two edges meet, a loop whose test is always true, and a postfix `++` on a local.
 -- splitc_main() { int i = 0; if (i) ; while (1) ; i++; }
-abbrev source_3 : Program
-source_3 = program_of (function 0 (
+abbrev pub source_3 : Program
+source_3 = program_of (function 0 1 (
     acting_on (Begin 0) (number 0) ∷
     choose false (use_ 0) nothing nothing ∷
     loop None (choose false (number 1) nothing break) nothing nothing ∷
     dropped (by Sub (one (does.Set 0) (by Add (use_ 0) (number 1))) (number 1)) ∷ []) ∷ []) 0
 
-abbrev flow_3 : Graph
+abbrev pub flow_3 : Graph
 flow_3 = record {
   points =
       point Start 0 [] [] None ∷ plain 0 [] ∷ point Plain 0 [] [] (Some 0) ∷ plain 0 (0 ∷ []) ∷ plain 0 (0 ∷ []) ∷

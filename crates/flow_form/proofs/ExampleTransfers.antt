@@ -24,12 +24,12 @@ own_element o e = one does.Own (one (does.Element o 1 true) e)
 abbrev address : (object index : ℕ) → Core
 address o n = one (does.Address o 1) (number n)
 
-abbrev source : Program
+abbrev pub source : Program
 source = program_of (
-    function 1 (
+    function 1 0 (
     choose false (choice true (use_ 0) (choice false (one does.Read (one does.Own (use_ 0))) (number 1) (number 0)) (number 0))
     (dropped (one (does.Call 0 1) (use_ 0))) nothing ∷ []) ∷
-    function 0 (
+    function 0 1 (
     acting (acts.Clear 0 false) ∷
     acting_on (acts.Get 0) (element 0 (constant Mine)) ∷
     acting acts.Sync ∷
@@ -41,7 +41,7 @@ source = program_of (
     act (acts.Copy Split) (argument (one does.Own (alone (does.Address 1 0))) (argument (address 0 0) (argument (number 16) none))) 1 ∷
     acting acts.AllStoreSync ∷ []) ∷ []) 1
 
-abbrev flow : Graph
+abbrev pub flow : Graph
 flow = record {
   points =
       point Start 1 [] [] None ∷

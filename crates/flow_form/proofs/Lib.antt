@@ -4,3 +4,4 @@ mod ExampleCalls
 mod ExampleLoops
 mod ExampleTransfers
 mod ExampleForms
+mod ExampleWalks

@@ -63,9 +63,10 @@ block (s ∷ more) = then_ s (block more)
 abbrev pub int : Ty
 int = record { void = false; stars = [] }
 
--- a function with so many int parameters
-abbrev pub function : (params : ℕ) → List Does → Function
-function params all = record { params = replicate params int; others = []; result = int; body = block all; line = 1 }
+-- a function with so many int parameters and so many other int locals
+abbrev pub function : (params others : ℕ) → List Does → Function
+function params others all =
+    record { params = replicate params int; others = replicate others int; result = int; body = block all; line = 1 }
 
 abbrev pub program_of : List Function → (main : ℕ) → Program
 program_of functions main = record { functions = functions; main = main; texts = [] }
