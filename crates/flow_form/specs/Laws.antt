@@ -1,8 +1,10 @@
 -- Laws of the flow of a source.
-use Rattle.std.specs.Prelude.{◌≡◌, ℕ, ◌+◌, ◌^◌, ◌<◌, Some, length, slice_get}
+use Rattle.std.specs.Prelude.{◌≡◌, ℕ, ◌+◌, ◌^◌, ◌<◌, List, Some, length, slice_get}
+use Rattle.sc_base.specs.declared.shape.Shape.{Shape}
 use Rattle.sc_core.specs.Core.{Program}
+use Rattle.sc_core.specs.Typed.{IsTyped}
 use Rattle.sc_meaning.specs.Meaning.{Setting, pointed}
-use Rattle.site_graph.specs.Kept.{IsFlow}
+use Rattle.site_graph.specs.Kept.{IsFlow, Names}
 use Rattle.flow_form.specs.Within.{Placed}
 use Rattle.flow_form.specs.Accesses.{accesses_of}
 use Rattle.flow_form.specs.FlowOf.{all_points, flow_of}
@@ -24,6 +26,12 @@ FlowsAreKept =
     (nodes : ℕ) (program : Program) →
     length (flow_of nodes program).points < 2 ^ 32 → accesses_of program + 1 < 2 ^ 32 →
     IsFlow (flow_of nodes program)
+
+-- it names only objects of the layout, where the source is typed over these
+abbrev pub FlowsNameObjects : Type 0
+FlowsNameObjects =
+    (nodes : ℕ) (objects : List Shape) (program : Program) → IsTyped objects program →
+    Names (length objects) (flow_of nodes program)
 
 -- Under any budget, the points that the source makes a node pass are a walk along the edges from Start,
 abbrev pub PointsAreAWalk : Type 0

@@ -30,3 +30,7 @@ pub record IsJoined (row from : ℕ) (old new : Bits) : Type 0 where
   pub same_rows : new.rows ≡ old.rows
   pub same_columns : new.columns ≡ old.columns
   pub pairs : (r c : ℕ) → IsSet new r c ↔ (IsSet old r c ⊎ ((r ≡ row) × IsSet old from c))
+
+-- something is set in the row `from` that is not set in the row `row`
+abbrev pub Gains : (row from : ℕ) → Bits → Type 0
+Gains row from bits = (column : ℕ) × IsSet bits from column × (IsSet bits row column → ⊥)

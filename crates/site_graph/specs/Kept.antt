@@ -1,6 +1,9 @@
 -- What every flow keeps.
-use Rattle.std.specs.Prelude.{◌≡◌, ◌↔◌, ℕ, ◌+◌, ◌^◌, ◌<◌, ◌≤◌, length, ltb, All}
+use Rattle.std.specs.Prelude.{◌≡◌, ◌↔◌, ℕ, ◌+◌, ◌^◌, ◌<◌, ◌≤◌, length, ltb, All, IfSome}
 use Rattle.site_graph.specs.declared.point.PointKind.TheVariants.{Start}
+use Rattle.site_graph.specs.declared.site.Form.{Form}
+use Rattle.site_graph.specs.declared.site.Form.TheVariants.{Element, Own}
+use Rattle.site_graph.specs.declared.site.Site.{Site}
 use Rattle.site_graph.specs.Graph.{Graph, kind_at, IsAt}
 use Rattle.site_graph.specs.Rising.{IsRising, edge_before}
 
@@ -30,3 +33,17 @@ pub record IsFlow (graph : Graph) : Type 0 where
   pub exposed_rise : IsRising ltb graph.exposed
   pub takes_rise : All (λ p. IsRising ltb p.takes) graph.points
   pub reads_rise : All (λ p. IsRising ltb p.reads) graph.points
+
+-- ---- a flow beside a layout with so many objects, of which all that it names are
+
+abbrev pub NamesForm : (objects : ℕ) → Form → Type 0
+NamesForm objects (Element o index) = o < objects
+NamesForm objects (Own o) = o < objects
+NamesForm objects _ = Unit {0}
+
+abbrev pub NamesSite : (objects : ℕ) → Site → Type 0
+NamesSite objects site = IfSome site.reads (NamesForm objects) × IfSome site.writes (NamesForm objects)
+
+pub record Names (objects : ℕ) (graph : Graph) : Type 0 where
+  pub sites : All (NamesSite objects) graph.sites
+  pub exposed : All (λ o. o < objects) graph.exposed
