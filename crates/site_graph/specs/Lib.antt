@@ -6,3 +6,4 @@ pub mod Order
 pub mod Bits
 pub mod BitWords
 pub mod Reached
+pub mod Plans

@@ -3,7 +3,7 @@ use Rattle.std.proofs.Common.{◌≡◌, ℕ, zero, suc, ◌+◌, ◌≤◌, Lis
 use Rattle.std.specs.Prelude.{slice_get}
 use Rattle.sc_meaning.specs.declared.request.Request.{Request}
 use Rattle.sc_meaning.specs.declared.request.Request.TheVariants as ask
-use Rattle.source_order.specs.Steps.{unlined}
+use Rattle.sc_meaning.specs.OfAccess.{unlined}
 use Rattle.source_order.specs.Answering.{is_answered}
 
 abbrev pub one_if : Bool → ℕ

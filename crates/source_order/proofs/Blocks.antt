@@ -10,7 +10,8 @@ use Rattle.sc_isa.specs.declared.access.Track.TheVariants.{Counter, Store, Cover
 use Rattle.sc_isa.specs.declared.journal.Entry.{Entry}
 use Rattle.fabric.specs.Access.{track_of, is_counter}
 use Rattle.fabric.specs.Wired.{AllDone}
-use Rattle.source_order.specs.Steps.{is_blocking, is_split, is_done_at_once, request_by}
+use Rattle.source_order.specs.Steps.{request_by}
+use Rattle.sc_meaning.specs.OfAccess.{is_blocking, is_split, is_done_at_once}
 use Rattle.source_order.specs.Law.{IsPlain}
 use Rattle.source_order.proofs.Stands.{Stands}
 

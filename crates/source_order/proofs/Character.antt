@@ -18,7 +18,8 @@ use Rattle.sc_isa.specs.declared.journal.Entry.TheVariants.{Issued, Waited, Arri
 use Rattle.fabric.specs.Effects.{effects}
 use Rattle.fabric.specs.Barriers.{released}
 use Rattle.fabric.specs.Wired.{EntryWired, Wired}
-use Rattle.source_order.specs.Steps.{request_by, request_in, requested, is_done_at_once}
+use Rattle.source_order.specs.Steps.{request_by, requested}
+use Rattle.sc_meaning.specs.OfAccess.{request_in, is_done_at_once}
 use Rattle.source_order.specs.Moments.{event_of}
 use Rattle.source_order.specs.Items.{all_steps, all_releases, all_effects, items}
 use Rattle.source_order.proofs.Stands.{Stands, wired_at}

@@ -16,7 +16,8 @@ use Rattle.fabric.specs.Effects.{effects}
 use Rattle.fabric.specs.Barriers.{finished, released}
 use Rattle.fabric.specs.Wired.{EntryWired, Wired}
 use Rattle.source_order.proofs.Once.{AtMostOnce, each_part_once}
-use Rattle.source_order.specs.Steps.{request_by, requested, is_done_at_once}
+use Rattle.source_order.specs.Steps.{request_by, requested}
+use Rattle.sc_meaning.specs.OfAccess.{is_done_at_once}
 use Rattle.source_order.specs.Moments.{event_of, time, occurred_in}
 use Rattle.source_order.specs.Items.{step_by, own_steps, all_steps, all_releases, all_effects, items}
 use Rattle.source_order.proofs.Stands.{Stands, requested_below}

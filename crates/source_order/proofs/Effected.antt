@@ -17,7 +17,8 @@ use Rattle.fabric.specs.Access.{transfer_of}
 use Rattle.fabric.specs.Effects.{due, effects}
 use Rattle.fabric.specs.Wired.{Wired}
 use Rattle.source_order.proofs.Once.{IsFresh, AtMostOnce, each_part_once}
-use Rattle.source_order.specs.Steps.{request_by, request_in, requested, request_of, is_done_at_once}
+use Rattle.source_order.specs.Steps.{request_by, requested, request_of}
+use Rattle.sc_meaning.specs.OfAccess.{request_in, is_done_at_once}
 use Rattle.source_order.specs.Moments.{does, event_of}
 use Rattle.source_order.proofs.Stands.{Stands, same_stand}
 use Rattle.source_order.proofs.Numbers.{issued_is, access_is}

@@ -20,7 +20,8 @@ use Rattle.sc_isa.specs.declared.journal.Entry.{Entry}
 use Rattle.sc_isa.specs.declared.journal.Entry.TheVariants.{Issued, Delivered, Waited, Arrived, Passed, Finished}
 use Rattle.fabric.specs.Effects.{awaited}
 use Rattle.fabric.specs.Access.{is_read_on}
-use Rattle.source_order.specs.Steps.{is_split, request_in, requested, request_of, unlined}
+use Rattle.source_order.specs.Steps.{requested, request_of}
+use Rattle.sc_meaning.specs.OfAccess.{is_split, request_in, unlined}
 use Rattle.source_order.proofs.Stands.{Stands, requested_below}
 use Rattle.source_order.proofs.Numbers.{issued_is, access_is}
 use Rattle.source_order.proofs.Occurs.{as_part, some_is, found, part_of}

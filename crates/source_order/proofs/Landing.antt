@@ -21,7 +21,8 @@ use Rattle.sc_isa.specs.declared.journal.Entry.{Entry}
 use Rattle.sc_isa.specs.declared.journal.Entry.TheVariants.{Issued, Delivered, Waited, Arrived, Passed, Finished}
 use Rattle.fabric.specs.Effects.{awaited}
 use Rattle.fabric.specs.Access.{is_read_on}
-use Rattle.source_order.specs.Steps.{is_blocking, written_as, request_by, request_in, requested, is_done_at_once, own_requests, request_of}
+use Rattle.source_order.specs.Steps.{request_by, requested, own_requests, request_of}
+use Rattle.sc_meaning.specs.OfAccess.{is_blocking, written_as, request_in, is_done_at_once}
 use Rattle.source_order.proofs.Stands.{Stands, own_at}
 use Rattle.source_order.proofs.Numbers.{eq_self, if_true, if_false, issued_is, access_is, both_self}
 use Rattle.source_order.proofs.Distinct.{num, at_node}

@@ -21,7 +21,8 @@ use Rattle.fabric.specs.Access.{transfer_of as moved_by, track_of, is_store, is_
 use Rattle.fabric.specs.Effects.{access_at}
 use Rattle.fabric.specs.Barriers.{finished}
 use Rattle.fabric.specs.Wired.{Wired, AllDone}
-use Rattle.source_order.specs.Steps.{is_blocking, is_split, is_done_at_once, request_in, unlined, own_requests, requested, request_by, track_at}
+use Rattle.source_order.specs.Steps.{own_requests, requested, request_by, track_at}
+use Rattle.sc_meaning.specs.OfAccess.{is_blocking, is_split, is_done_at_once, request_in, unlined}
 use Rattle.source_order.specs.Made.{run_in}
 use Rattle.source_order.specs.Answering.{AllWaitForAnswers}
 use Rattle.source_order.proofs.Stands.{Stands, own_at, requested_below}

@@ -17,7 +17,8 @@ use Rattle.sc_meaning.specs.Parts.{is_blocking_copy}
 use Rattle.sc_isa.specs.declared.journal.Entry.{Entry}
 use Rattle.sc_isa.specs.declared.journal.Entry.TheVariants.{Issued, Arrived}
 use Rattle.fabric.specs.Barriers.{arrivals as run_arrivals, released}
-use Rattle.source_order.specs.Steps.{requested, own_requests, arrivals_among, is_blocking, unlined}
+use Rattle.source_order.specs.Steps.{requested, own_requests, arrivals_among}
+use Rattle.sc_meaning.specs.OfAccess.{is_blocking, unlined}
 use Rattle.source_order.specs.Made.{answers_in}
 use Rattle.source_order.specs.Needs.{is_on, step_needs}
 use Rattle.source_order.proofs.Stands.{Stands, same_stand, own_length, requested_below}

@@ -23,7 +23,7 @@ use Rattle.sc_isa.specs.declared.access.Track.TheVariants.{Counter, Store, Cover
 use Rattle.sc_isa.specs.declared.journal.Entry.{Entry}
 use Rattle.sc_isa.specs.declared.journal.Entry.TheVariants.{Waited, Arrived}
 use Rattle.fabric.specs.Access.{transfer_of as moved_by}
-use Rattle.source_order.specs.Steps.{is_blocking, is_split, is_done_at_once, request_in, unlined}
+use Rattle.sc_meaning.specs.OfAccess.{is_blocking, is_split, is_done_at_once, request_in, unlined}
 use Rattle.source_order.specs.Moments.{does}
 use Rattle.source_order.specs.Needs.{is_on, step_needs, sync_needs, needs}
 use Rattle.source_order.proofs.Numbers.{eq_self, if_true, both_self, access_is}

@@ -15,7 +15,8 @@ use Rattle.sc_meaning.specs.History.{AllDone, GoesOn, IsNext}
 use Rattle.meaning_laws.proofs.Decided.{le_decides}
 use Rattle.sc_isa.specs.declared.journal.Entry.{Entry}
 use Rattle.fabric.specs.Barriers.{arrivals as run_arrivals, released}
-use Rattle.source_order.specs.Steps.{is_blocking, requested, arrivals_among}
+use Rattle.source_order.specs.Steps.{requested, arrivals_among}
+use Rattle.sc_meaning.specs.OfAccess.{is_blocking}
 use Rattle.source_order.specs.Needs.{is_on, step_needs}
 use Rattle.source_order.proofs.Stands.{wired_at, requested_below}
 use Rattle.source_order.proofs.Numbers.{eq_self, among_before}

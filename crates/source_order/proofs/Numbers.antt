@@ -11,7 +11,8 @@ use Rattle.sc_isa.specs.declared.journal.Entry.TheVariants.{Issued, Delivered, W
 use Rattle.fabric.specs.Effects.{access_at, issues}
 use Rattle.fabric.specs.Barriers.{arrivals}
 use Rattle.fabric.specs.Wired.{EntryWired, Wired}
-use Rattle.source_order.specs.Steps.{request_by, request_in, requested, request_of, arrivals_among}
+use Rattle.source_order.specs.Steps.{request_by, requested, request_of, arrivals_among}
+use Rattle.sc_meaning.specs.OfAccess.{request_in}
 use Rattle.source_order.proofs.Stands.{Stands, counted, requested_one, requested_below}
 
 pub if_true : {A : Type 0} (b : Bool) (x y : A) → b ≡ true → (if b then x else y) ≡ x

@@ -19,7 +19,8 @@ use Rattle.sc_isa.specs.declared.access.Track.{Track}
 use Rattle.sc_isa.specs.declared.journal.Entry.{Entry}
 use Rattle.sc_isa.specs.declared.journal.Entry.TheVariants.{Issued, Delivered, Waited, Arrived, Passed, Finished}
 use Rattle.fabric.specs.Access.{transfer_of as moved_by, track_of, is_store}
-use Rattle.source_order.specs.Steps.{is_blocking, is_split, request_by, request_in, requested, is_done_at_once, unlined, track_at}
+use Rattle.source_order.specs.Steps.{request_by, requested, track_at}
+use Rattle.sc_meaning.specs.OfAccess.{is_blocking, is_split, request_in, is_done_at_once, unlined}
 use Rattle.source_order.specs.Needs.{is_on}
 use Rattle.source_order.proofs.Stands.{Stands, asked, own_length, own_at}
 use Rattle.source_order.proofs.Numbers.{issued_is, access_is}

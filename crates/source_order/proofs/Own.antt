@@ -15,7 +15,8 @@ use Rattle.sc_isa.specs.declared.journal.Entry.{Entry}
 use Rattle.sc_isa.specs.declared.journal.Entry.TheVariants.{Issued, Delivered, Waited, Arrived, Passed, Finished}
 use Rattle.fabric.specs.Barriers.{finished}
 use Rattle.fabric.specs.Wired.{EntryWired, Wired}
-use Rattle.source_order.specs.Steps.{requested, is_done_at_once}
+use Rattle.source_order.specs.Steps.{requested}
+use Rattle.sc_meaning.specs.OfAccess.{is_done_at_once}
 use Rattle.source_order.specs.Items.{step_by, own_steps, all_steps}
 use Rattle.source_order.proofs.Stands.{Stands}
 use Rattle.source_order.proofs.Numbers.{eq_self, if_true, both_self}

@@ -15,7 +15,7 @@ use Rattle.effect_order.specs.Transfer.{part_value}
 use Rattle.sc_meaning.specs.Past.{Processes, effects as source_effects, made, answers, run_so_far, request_at}
 use Rattle.sc_isa.specs.declared.journal.Entry.{Entry}
 use Rattle.source_order.proofs.Once.{each_part_once}
-use Rattle.source_order.specs.Steps.{is_done_at_once}
+use Rattle.sc_meaning.specs.OfAccess.{is_done_at_once}
 use Rattle.source_order.specs.Made.{run_in, answers_in}
 use Rattle.source_order.proofs.Numbers.{if_true}
 use Rattle.source_order.proofs.Occurs.{some_is, part_of, part_self, found, its_value}

@@ -22,7 +22,8 @@ use Rattle.fabric.specs.Effects.{effects}
 use Rattle.fabric.specs.Barriers.{arrivals, passes, released, stores_at}
 use Rattle.fabric.specs.Wired.{EntryWired, Wired, AllDone}
 use Rattle.source_order.proofs.Once.{AtMostOnce, each_part_once}
-use Rattle.source_order.specs.Steps.{is_blocking, is_split, request_by, request_in, requested, track_at, arrivals_among}
+use Rattle.source_order.specs.Steps.{request_by, requested, track_at, arrivals_among}
+use Rattle.sc_meaning.specs.OfAccess.{is_blocking, is_split, request_in}
 use Rattle.source_order.specs.Moments.{time, occurred_in}
 use Rattle.source_order.specs.Needs.{is_on, step_needs, sync_needs, part_needs, release_needs}
 use Rattle.source_order.specs.Law.{IsPlain}

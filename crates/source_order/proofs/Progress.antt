@@ -19,7 +19,8 @@ use Rattle.sc_isa.specs.declared.access.Access.TheVariants.{Read, Write, Copy}
 use Rattle.sc_isa.specs.declared.journal.Entry.{Entry}
 use Rattle.sc_isa.specs.declared.journal.Entry.TheVariants.{Issued, Arrived}
 use Rattle.fabric.specs.Access.{transfer_of}
-use Rattle.source_order.specs.Steps.{is_blocking, request_in, requested, own_requests, is_done_at_once, arrivals_among}
+use Rattle.source_order.specs.Steps.{requested, own_requests, arrivals_among}
+use Rattle.sc_meaning.specs.OfAccess.{is_blocking, request_in, is_done_at_once}
 use Rattle.source_order.specs.Made.{answers_in, answer_of_issue}
 use Rattle.source_order.proofs.Stands.{Stands}
 use Rattle.source_order.proofs.Numbers.{eq_self, if_true, issued_is, among_before, among_with}

@@ -19,7 +19,8 @@ use Rattle.sc_isa.specs.declared.journal.Entry.{Entry}
 use Rattle.sc_isa.specs.declared.journal.Entry.TheVariants.{Issued, Delivered, Waited, Arrived, Passed, Finished}
 use Rattle.fabric.specs.Access.{transfer_of as moved_by}
 use Rattle.fabric.specs.Barriers.{arrivals as run_arrivals}
-use Rattle.source_order.specs.Steps.{request_by, request_in, requested, is_done_at_once, arrivals_among}
+use Rattle.source_order.specs.Steps.{request_by, requested, arrivals_among}
+use Rattle.sc_meaning.specs.OfAccess.{request_in, is_done_at_once}
 use Rattle.source_order.proofs.Stands.{Stands, asked}
 use Rattle.source_order.proofs.Numbers.{eq_self, if_true, access_is}
 use Rattle.source_order.proofs.Occurs.{as_part, some_from, some_is, part_of, found}

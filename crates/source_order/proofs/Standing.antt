@@ -13,7 +13,8 @@ use Rattle.fabric.specs.Wired.{EntryWired, Wired}
 use Rattle.sc_meaning.specs.declared.request.Request.{Request}
 use Rattle.sc_meaning.specs.declared.request.Request.TheVariants.{Sync}
 use Rattle.sc_meaning.specs.History.{barrier_of}
-use Rattle.source_order.specs.Steps.{request_by, request_in, requested}
+use Rattle.source_order.specs.Steps.{request_by, requested}
+use Rattle.sc_meaning.specs.OfAccess.{request_in}
 use Rattle.source_order.proofs.Stands.{Stands, wired_at}
 use Rattle.source_order.proofs.Numbers.{if_true, if_false}
 use Rattle.source_order.proofs.Occurs.{not_some, some_from, some_is}

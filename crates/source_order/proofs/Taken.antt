@@ -21,7 +21,8 @@ use Rattle.sc_isa.specs.declared.journal.Entry.TheVariants.{Issued, Waited, Arri
 use Rattle.fabric.specs.Access.{transfer_of}
 use Rattle.fabric.specs.Effects.{effects}
 use Rattle.source_order.proofs.Once.{each_part_once}
-use Rattle.source_order.specs.Steps.{request_by, request_in, requested, is_done_at_once}
+use Rattle.source_order.specs.Steps.{request_by, requested}
+use Rattle.sc_meaning.specs.OfAccess.{request_in, is_done_at_once}
 use Rattle.source_order.specs.Items.{is_turn}
 use Rattle.source_order.proofs.Stands.{Stands, same_stand}
 use Rattle.source_order.proofs.Numbers.{eq_self, if_true, if_false, issued_is, both_self, access_is}

@@ -13,7 +13,8 @@ use Rattle.sc_isa.specs.declared.journal.Entry.{Entry}
 use Rattle.sc_isa.specs.declared.journal.Entry.TheVariants.{Issued, Waited, Arrived, Finished}
 use Rattle.fabric.specs.Effects.{effects}
 use Rattle.fabric.specs.Barriers.{released}
-use Rattle.source_order.specs.Steps.{is_done_at_once, requested}
+use Rattle.source_order.specs.Steps.{requested}
+use Rattle.sc_meaning.specs.OfAccess.{is_done_at_once}
 use Rattle.source_order.specs.Moments.{does, event_of, sooner}
 
 -- the node's own step that the entry is, but for blocking reads and writes: those are their effects

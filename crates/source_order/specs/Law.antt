@@ -12,7 +12,8 @@ use Rattle.sc_isa.specs.declared.journal.Entry.{Entry}
 use Rattle.fabric.specs.Asked.{Machine}
 use Rattle.fabric.specs.Wired.{AllDone}
 use Rattle.source_order.specs.Whole.{IsRun, run_outcome}
-use Rattle.source_order.specs.Steps.{is_blocking, request_by}
+use Rattle.source_order.specs.Steps.{request_by}
+use Rattle.sc_meaning.specs.OfAccess.{is_blocking}
 use Rattle.source_order.specs.Items.{items, source_order}
 use Rattle.source_order.specs.Needs.{NoCycle}
 use Rattle.source_order.specs.Made.{IsMade}

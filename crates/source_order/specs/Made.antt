@@ -19,7 +19,8 @@ use Rattle.sc_isa.specs.declared.access.Track.TheVariants.{Store}
 use Rattle.fabric.specs.Effects.{effects, awaited, access_at}
 use Rattle.fabric.specs.Barriers.{finished}
 use Rattle.fabric.specs.Asked.{Machine, run_so_far}
-use Rattle.source_order.specs.Steps.{is_blocking, own_requests, unlined}
+use Rattle.source_order.specs.Steps.{own_requests}
+use Rattle.sc_meaning.specs.OfAccess.{is_blocking, unlined}
 
 -- What the issue of an access is answered, if it is answered at all; all: all effects of the run, in which a blocking
 -- read has its value.

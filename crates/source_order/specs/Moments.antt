@@ -14,7 +14,8 @@ use Rattle.sc_isa.specs.declared.journal.Entry.{Entry}
 use Rattle.sc_isa.specs.declared.journal.Entry.TheVariants.{Passed}
 use Rattle.fabric.specs.Effects.{access_at, effects}
 use Rattle.fabric.specs.Barriers.{passes, released}
-use Rattle.source_order.specs.Steps.{is_done_at_once, request_by, requested, request_of, finishes}
+use Rattle.source_order.specs.Steps.{request_by, requested, request_of, finishes}
+use Rattle.sc_meaning.specs.OfAccess.{is_done_at_once}
 
 -- the effects of an event, of which there is one or none
 abbrev pub does : SourceEvent → List CellEffect

@@ -13,7 +13,8 @@ use Rattle.sc_isa.specs.declared.journal.Entry.{Entry}
 use Rattle.sc_isa.specs.declared.access.Track.{Track}
 use Rattle.fabric.specs.Access.{is_store}
 use Rattle.fabric.specs.Barriers.{stores_at}
-use Rattle.source_order.specs.Steps.{is_blocking, is_split, requested, track_at, arrivals_among}
+use Rattle.source_order.specs.Steps.{requested, track_at, arrivals_among}
+use Rattle.sc_meaning.specs.OfAccess.{is_blocking, is_split}
 use Rattle.source_order.specs.Moments.{does, sooner}
 use Rattle.source_order.specs.Items.{items}
 
