@@ -1,3 +1,5 @@
 pub mod Numbers
 pub mod Values
 pub mod Layouts
+pub mod Outcomes
+pub mod Deeds
