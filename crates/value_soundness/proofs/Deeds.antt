@@ -19,7 +19,7 @@ use Rattle.sc_layout.specs.Layout.{Arrangement, LaidObject, IsLayout}
 use Rattle.sc_layout.specs.Place.{IsPlace, extent_of}
 use Rattle.sc_layout.specs.Pointer.{used_place}
 use Rattle.sc_isa.specs.Elements.{Outcome, gives, fails, wrong, ints, element}
-use Rattle.sc_isa.specs.Pure.{Pure, is_true, is_pointer, int_or_fault, same_value, computed, un, same as same_step, truth, elem, step as step_by}
+use Rattle.sc_isa.specs.Pure.{Pure, is_true, is_pointer, int_or_fault, same_value, computed, un, bin, glob, same as same_step, truth, elem, step as step_by, to_global as to_global_step, to_local as to_local_step, to_proc as to_proc_step}
 use Rattle.sc_isa.specs.Deeds.{Made, makes, faults, stuck, uses, sets, reads, writes, calls, Done, lets_go, ends, sticks, clears, prints, fills, gets, misses, puts, sends, copies, waits, meets, Spotted, found, missing, nowhere, place_or_fault, spotted, spanned, made_by, reading, writing, cleared, printing, filling, getting, putting, copied_from, copied, copying}
 use Rattle.sc_isa.specs.Sound.{IsPlacedCopy, further}
 use Rattle.sc_core.specs.declared.operation.Constant.{Constant}
@@ -104,3 +104,200 @@ module _ (layout : Arrangement) (exposed : List ℕ) where
   spot_fits : (cell : List Star) (p : Kind) → IsPlaceOf cell p → (v : Value) → IsOf layout exposed p v
       → SpotFits cell (spotted layout v)
   spot_fits cell p is v h = rw (place_is_pointer cell p is v h) (used_fits cell p is v h)
+
+-- ---- steps with a value
+
+module _ (layout : Arrangement) (exposed : List ℕ) (scope : Scope) where
+  -- what the step does leaves a value of the kind
+  abbrev pub MadeFits : Kind → Made → Type 0
+  MadeFits k (makes v) = IsOf layout exposed k v
+  MadeFits k (faults fault) = Unit {0}
+  MadeFits k stuck = ⊥
+  MadeFits k (uses x) = HasBegun scope x k
+  MadeFits k (sets x v) = IsLocal scope x k × IsOf layout exposed k v
+  MadeFits k (reads place) = (cell : List Star) × IsCell layout cell place × (k ≡ kind_of cell)
+  MadeFits k (writes place v) =
+      (cell : List Star) × IsCell layout cell place × (k ≡ kind_of cell) × IsOf layout exposed k v
+  MadeFits k (calls f vs) =
+      (called : Function) × (slice_get scope.functions f ≡ Some called)
+      × AreOf layout exposed (map kind_of_type called.params) vs × (k ≡ kind_of_type called.result)
+
+  made_given : (k : Kind) (o : Outcome) → Given layout exposed k o → MadeFits k (made_by o)
+  made_given k (gives v) h = h
+  made_given k (fails fault) h = tt
+  made_given k wrong h = absurd h
+
+  then_given : (j k : Kind) (o : Outcome) (go : Value → Made) → Given layout exposed j o
+      → ((v : Value) → IsOf layout exposed j v → MadeFits k (go v)) → MadeFits k (then_made o go)
+  then_given j k (gives v) go h f = f v h
+  then_given j k (fails fault) go h f = tt
+  then_given j k wrong go h f = absurd h
+
+  read_fits : (cell : List Star) (s : Spotted) → SpotFits layout exposed cell s → MadeFits (kind_of cell) (reading s)
+  read_fits cell (found place) h = (cell, h, refl)
+  read_fits cell (missing fault) h = tt
+  read_fits cell nowhere h = absurd h
+
+  write_fits : (cell : List Star) (v : Value) (s : Spotted) → SpotFits layout exposed cell s
+      → IsOf layout exposed (kind_of cell) v → MadeFits (kind_of cell) (writing s v)
+  write_fits cell v (found place) h f = (cell, h, refl, f)
+  write_fits cell v (missing fault) h f = tt
+  write_fits cell v nowhere h f = absurd h
+
+  module _ (node : ℕ) (ground : Ground layout node scope.objects) where
+    abbrev Fits : Operation → List Value → Kind → Type 0
+    Fits operation vs k = MadeFits k (made_of layout node operation vs)
+
+    pure_made : (k : Kind) (op : Pure) (vs : List Value) → Given layout exposed k (computed layout node op vs)
+        → MadeFits k (made_by (computed layout node op vs))
+    pure_made k op vs h = made_given k (computed layout node op vs) h
+
+    not_given : (v : Value) → IsOf layout exposed number v
+        → MadeFits number (made_by (computed layout node (un Not) (v ∷ [])))
+    not_given (Int n) h = pure_made number (un Not) (Int n ∷ []) (unary_given layout exposed Not n h)
+    not_given Null h = absurd h
+    not_given (Ptr object at offset) h = absurd h
+
+    denied : (o : Outcome) → Given layout exposed number o
+        → MadeFits number (then_made o (λ v. made_by (computed layout node (un Not) (v ∷ []))))
+    denied o h = then_given number number o (λ v. made_by (computed layout node (un Not) (v ∷ []))) h not_given
+
+    -- so many whole numbers
+    int_given : (n : ℤ) → FitsSigned w64 n → IsOf layout exposed number (Int n)
+    int_given n h = h
+
+    forward_fits : (star : Star) (cell : List Star) (v by : Value) → IsOf layout exposed (to cell) v
+        → IsOf layout exposed number by → Fits (Forward star) (v ∷ by ∷ []) (to cell)
+    forward_fits star cell v (Int n) h k =
+        pure_made (to cell) (step_by star) (v ∷ Int n ∷ []) (step_given layout exposed star cell v n h)
+    forward_fits star cell v Null h k = absurd k
+    forward_fits star cell v (Ptr object at offset) h k = absurd k
+
+    back_fits : (star : Star) (cell : List Star) (v by : Value) → IsOf layout exposed (to cell) v
+        → IsOf layout exposed number by → Fits (Back star) (v ∷ by ∷ []) (to cell)
+    back_fits star cell v (Int n) h k =
+        then_given number (to cell) (computed layout node (un Minus) (Int n ∷ []))
+        (λ n. made_by (computed layout node (step_by star) (v ∷ n ∷ []))) (unary_given layout exposed Minus n k)
+        (λ n is. forward_fits star cell v n h is)
+    back_fits star cell v Null h k = absurd k
+    back_fits star cell v (Ptr object at offset) h k = absurd k
+
+    binary_made : (op : _) (a b : Value) → IsOf layout exposed number a → IsOf layout exposed number b
+        → Fits (Binary op) (a ∷ b ∷ []) number
+    binary_made op (Int a) (Int b) h k = pure_made number (bin op) (Int a ∷ Int b ∷ []) (binary_given layout exposed op a b)
+    binary_made op (Int a) Null h k = absurd k
+    binary_made op (Int a) (Ptr object at offset) h k = absurd k
+    binary_made op Null b h k = absurd h
+    binary_made op (Ptr object at offset) b h k = absurd h
+
+    unary_made : (op : _) (a : Value) → IsOf layout exposed number a → Fits (Unary op) (a ∷ []) number
+    unary_made op (Int a) h = pure_made number (un op) (Int a ∷ []) (unary_given layout exposed op a h)
+    unary_made op Null h = absurd h
+    unary_made op (Ptr object at offset) h = absurd h
+
+    global_made : (cell : List Star) (n v : Value) → IsOf layout exposed number n → IsOf layout exposed (to cell) v
+        → Fits ToGlobal (n ∷ v ∷ []) (to cell)
+    global_made cell (Int n) v k h =
+        pure_made (to cell) to_global_step (Int n ∷ v ∷ []) (to_global_given layout exposed cell n v h)
+    global_made cell Null v k h = absurd k
+    global_made cell (Ptr object at offset) v k h = absurd k
+
+    pub computes_fits : {operation : Operation} {kinds : List Kind} {k : Kind} → Computes operation kinds k → (vs : List Value)
+        → AreOf layout exposed kinds vs → Fits operation vs k
+    computes_fits forward [] f = absurd f
+    computes_fits forward (v ∷ []) f = absurd f.1
+    computes_fits (forward {star = star} {cell = cell}) (v ∷ n ∷ []) f = forward_fits star cell v n f.0 f.1.0
+    computes_fits forward (v ∷ n ∷ u ∷ vs) f = absurd f.1.1
+    computes_fits back [] f = absurd f
+    computes_fits back (v ∷ []) f = absurd f.1
+    computes_fits (back {star = star} {cell = cell}) (v ∷ n ∷ []) f = back_fits star cell v n f.0 f.1.0
+    computes_fits back (v ∷ n ∷ u ∷ vs) f = absurd f.1.1
+    computes_fits binary [] f = absurd f
+    computes_fits binary (v ∷ []) f = absurd f.1
+    computes_fits (binary {op = op}) (v ∷ n ∷ []) f = binary_made op v n f.0 f.1.0
+    computes_fits binary (v ∷ n ∷ u ∷ vs) f = absurd f.1.1
+
+    element_made : (o n : ℕ) (plain : Bool) (s : Shape) (vs : List Value) → slice_get scope.objects o ≡ Some s
+        → n ≡ length s.left + length s.right → AreOf layout exposed (numbers n) vs
+        → Fits (Element o n plain) vs (named s.spread s.ty.stars)
+    element_made o n plain s vs at count f =
+        let l = laid_of layout node scope.objects ground o s at in
+        let c : n ≡ length l.laid.shape.left + length l.laid.shape.right =
+        count ∙ ap (λ (s : Shape). length s.left + length s.right) (sym l.shape_is) in
+        pure_made (named s.spread s.ty.stars) (elem o n) vs
+        (element_given layout exposed ground.laid ground.few (named s.spread s.ty.stars) o n l.laid vs l.laid_is
+        (omega (arith, c)) (omega (arith, c))
+        (λ at offset p. subst (λ (s : Shape). Points layout s.ty.stars o at offset) l.shape_is p) f)
+
+    address_made : (o n : ℕ) (s : Shape) (vs : List Value) → slice_get scope.objects o ≡ Some s
+        → HasIndices s n → Contains exposed o → AreOf layout exposed (numbers n) vs
+        → Fits (Address o n) vs (to s.ty.stars)
+    address_made o n s vs at has c f =
+        let l = laid_of layout node scope.objects ground o s at in
+        let same : length l.laid.shape.left + length l.laid.shape.right ≡ length s.left + length s.right =
+        ap (λ (s : Shape). length s.left + length s.right) l.shape_is in
+        pure_made (to s.ty.stars) (elem o n) vs
+        (element_given layout exposed ground.laid ground.few (to s.ty.stars) o n l.laid vs l.laid_is
+        (omega (arith, same, has.enough)) (omega (arith, same, has.not_more))
+        (λ at offset p. (subst (λ (s : Shape). Points layout s.ty.stars o at offset) l.shape_is p, c)) f)
+
+    -- a step on values of the kinds that it takes
+    pub takes_fits : {operation : Operation} {kinds : List Kind} {k : Kind} → Takes scope operation kinds k
+        → Within exposed (exposed_by operation) → (vs : List Value) → AreOf layout exposed kinds vs → Fits operation vs k
+    takes_fits (use_ h) w [] f = h
+    takes_fits (use_ h) w (v ∷ vs) f = absurd f
+    takes_fits (element_ {o = o} {n = n} {plain = plain} {s = s} at count) w vs f = element_made o n plain s vs at count f
+    takes_fits (address {o = o} {n = n} {s = s} at has) w vs f =
+        address_made o n s vs at has (w o (0, omega arith, refl)) f
+    takes_fits own_pointer w [] f = absurd f
+    takes_fits (own_pointer {cell = cell}) w (v ∷ []) f =
+        pure_made (named true cell) glob (v ∷ []) (own_given layout exposed true cell node v ground.node_within f.0)
+    takes_fits own_pointer w (v ∷ u ∷ vs) f = absurd f.1
+    takes_fits own_cell w [] f = absurd f
+    takes_fits (own_cell {cell = cell}) w (v ∷ []) f =
+        pure_made (named true cell) glob (v ∷ []) (own_named_given layout exposed true false cell node v ground.node_within f.0)
+    takes_fits own_cell w (v ∷ u ∷ vs) f = absurd f.1
+    takes_fits convert w [] f = absurd f
+    takes_fits (convert {cell = cell}) w (v ∷ []) f =
+        pure_made (to cell) glob (v ∷ []) (convert_given layout exposed cell node v ground.node_within f.0)
+    takes_fits convert w (v ∷ u ∷ vs) f = absurd f.1
+    takes_fits (computes h) w vs f = computes_fits h vs f
+    takes_fits unary w [] f = absurd f
+    takes_fits (unary {op = op}) w (v ∷ []) f = unary_made op v f.0
+    takes_fits unary w (v ∷ u ∷ vs) f = absurd f.1
+    takes_fits same_ w [] f = absurd f
+    takes_fits same_ w (v ∷ []) f = absurd f.1
+    takes_fits same_ w (v ∷ u ∷ []) f = bit_is layout exposed (same_value v u)
+    takes_fits same_ w (v ∷ u ∷ t ∷ vs) f = absurd f.1.1
+    takes_fits differ w [] f = absurd f
+    takes_fits differ w (v ∷ []) f = absurd f.1
+    takes_fits differ w (v ∷ u ∷ []) f = denied (computed layout node same_step (v ∷ u ∷ [])) (bit_is layout exposed (same_value v u))
+    takes_fits differ w (v ∷ u ∷ t ∷ vs) f = absurd f.1.1
+    takes_fits is_null w [] f = absurd f
+    takes_fits is_null w (v ∷ []) f = denied (computed layout node truth (v ∷ [])) (bit_is layout exposed (is_true v))
+    takes_fits is_null w (v ∷ u ∷ vs) f = absurd f.1
+    takes_fits to_global w [] f = absurd f
+    takes_fits to_global w (n ∷ []) f = absurd f.1
+    takes_fits (to_global {cell = cell}) w (n ∷ v ∷ []) f = global_made cell n v f.0 f.1.0
+    takes_fits to_global w (n ∷ v ∷ u ∷ vs) f = absurd f.1.1
+    takes_fits to_proc w [] f = absurd f
+    takes_fits (to_proc {cell = cell}) w (v ∷ []) f =
+        pure_made number to_proc_step (v ∷ []) (to_proc_given layout exposed cell v ground.few f.0)
+    takes_fits to_proc w (v ∷ u ∷ vs) f = absurd f.1
+    takes_fits to_local w [] f = absurd f
+    takes_fits (to_local {cell = cell}) w (v ∷ []) f =
+        pure_made (to cell) to_local_step (v ∷ []) (convert_given layout exposed cell 0 v ground.laid.some_node f.0)
+    takes_fits to_local w (v ∷ u ∷ vs) f = absurd f.1
+    takes_fits (set h) w [] f = absurd f
+    takes_fits (set h) w (v ∷ []) f = (h.0, f.0)
+    takes_fits (set h) w (v ∷ u ∷ vs) f = absurd f.1
+    takes_fits (call {f = called} at) w vs f = (called, at, f, refl)
+    takes_fits (read p) w [] f = absurd f
+    takes_fits (read {p = p} {cell = cell} is) w (v ∷ []) f =
+        read_fits cell (spotted layout v) (spot_fits layout exposed cell p is v f.0)
+    takes_fits (read p) w (v ∷ u ∷ vs) f = absurd f.1
+    takes_fits (write p) w [] f = absurd f
+    takes_fits (write p) w (v ∷ []) f = absurd f.1
+    takes_fits (write {p = p} {cell = cell} is) w (v ∷ u ∷ []) f =
+        write_fits cell u (spotted layout v) (spot_fits layout exposed cell p is v f.0) f.1.0
+    takes_fits (write p) w (v ∷ u ∷ t ∷ vs) f = absurd f.1.1
