@@ -66,7 +66,7 @@ Within exposed some = (object : ℕ) → Contains some object → Contains expos
 module _ (layout : Arrangement) (exposed : List ℕ) where
   -- ---- places
 
-  abbrev SpotFits : List Star → Spotted → Type 0
+  abbrev pub SpotFits : List Star → Spotted → Type 0
   SpotFits cell (found place) = IsCell layout cell place
   SpotFits cell (missing fault) = Unit {0}
   SpotFits cell nowhere = ⊥
@@ -96,12 +96,12 @@ module _ (layout : Arrangement) (exposed : List ℕ) where
   used_fits cell _ by_name Null h = tt
   used_fits cell _ by_name (Ptr object node offset) h = in_extent cell object node offset _ _ refl h
 
-  place_is_pointer : (cell : List Star) (p : Kind) → IsPlaceOf cell p → (v : Value) → IsOf layout exposed p v
+  pub place_is_pointer : (cell : List Star) (p : Kind) → IsPlaceOf cell p → (v : Value) → IsOf layout exposed p v
       → is_pointer layout v ≡ true
   place_is_pointer cell _ pointed v h = is_a_pointer layout exposed cell v h
   place_is_pointer cell _ by_name v h = is_named layout exposed true cell v h
 
-  spot_fits : (cell : List Star) (p : Kind) → IsPlaceOf cell p → (v : Value) → IsOf layout exposed p v
+  pub spot_fits : (cell : List Star) (p : Kind) → IsPlaceOf cell p → (v : Value) → IsOf layout exposed p v
       → SpotFits cell (spotted layout v)
   spot_fits cell p is v h = rw (place_is_pointer cell p is v h) (used_fits cell p is v h)
 

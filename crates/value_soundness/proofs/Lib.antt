@@ -3,3 +3,4 @@ pub mod Values
 pub mod Layouts
 pub mod Outcomes
 pub mod Deeds
+pub mod Actions
