@@ -4,3 +4,4 @@ pub mod Layouts
 pub mod Outcomes
 pub mod Deeds
 pub mod Actions
+pub mod Memories
