@@ -5,3 +5,5 @@ pub mod Outcomes
 pub mod Deeds
 pub mod Actions
 pub mod Memories
+pub mod Promises
+pub mod Safety
