@@ -7,3 +7,4 @@ pub mod Actions
 pub mod Memories
 pub mod Promises
 pub mod Safety
+pub mod Walks
