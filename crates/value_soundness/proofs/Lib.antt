@@ -8,3 +8,4 @@ pub mod Memories
 pub mod Promises
 pub mod Safety
 pub mod Walks
+pub mod StatementWalks

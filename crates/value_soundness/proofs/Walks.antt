@@ -40,13 +40,13 @@ in_left exposed xs ys w o c = w o (Contains-append_left xs ys o c)
 pub in_right : (exposed xs ys : List ℕ) → Within exposed (xs ++ ys) → Within exposed ys
 in_right exposed xs ys w o c = w o (Contains-append_right xs ys o c)
 
-first_in : (exposed xs ys zs : List ℕ) → Within exposed (xs ++ ys ++ zs) → Within exposed xs
+pub first_in : (exposed xs ys zs : List ℕ) → Within exposed (xs ++ ys ++ zs) → Within exposed xs
 first_in exposed xs ys zs w = in_left exposed xs ys (in_left exposed (xs ++ ys) zs w)
 
-second_in : (exposed xs ys zs : List ℕ) → Within exposed (xs ++ ys ++ zs) → Within exposed ys
+pub second_in : (exposed xs ys zs : List ℕ) → Within exposed (xs ++ ys ++ zs) → Within exposed ys
 second_in exposed xs ys zs w = in_right exposed xs ys (in_left exposed (xs ++ ys) zs w)
 
-third_in : (exposed xs ys zs : List ℕ) → Within exposed (xs ++ ys ++ zs) → Within exposed zs
+pub third_in : (exposed xs ys zs : List ℕ) → Within exposed (xs ++ ys ++ zs) → Within exposed zs
 third_in exposed xs ys zs w = in_right exposed (xs ++ ys) zs w
 
 pub none_in : (exposed : List ℕ) → Within exposed []
@@ -78,7 +78,7 @@ module _ (here : Setting) (exposed : List ℕ) (call : Calls) (safe : SafeCalls 
   SafeNext scope k go = SafeWith here.layout exposed (typing_of scope ∷ ts) k go
 
   module _ (scope : Scope) (ground : Ground here.layout here.node scope.objects) (functions : scope.functions ≡ here.program.functions) where
-    calls_safe : SafeCalls here.layout exposed scope.functions call
+    pub calls_safe : SafeCalls here.layout exposed scope.functions call
     calls_safe = subst (λ (fs : List Function). SafeCalls here.layout exposed fs call) (sym functions) safe
 
     performing : (k : Kind) (operation : Operation) (vs : List Value) (line : ℕ) (go : Value → Rest)
