@@ -1,6 +1,6 @@
 -- What each step without a value does with values of the kinds that it takes.
-use Rattle.std.proofs.Common.{◌≡◌, ℕ, zero, suc, ◌+◌, ◌/◌, ◌%◌, ◌<◌, ◌≤◌, ℤ, pos, negsuc, Result, Ok, Err, Option, Some, None, Bool, true, false, ◌==◌, ◌&&◌, List, [], ◌∷◌, map, length, slice_get, refl, sym, ap, ◌∙◌, subst, arith}
-use Rattle.std.specs.Prelude.{nat_le, if◌then◌else◌, FitsSigned}
+use Rattle.std.proofs.Common.{◌≡◌, ℕ, zero, suc, ◌+◌, ◌/◌, ◌%◌, ◌<◌, ◌≤◌, ℤ, pos, negsuc, Result, Ok, Err, Option, Some, None, Bool, true, false, ◌==◌, ◌&&◌, List, [], ◌∷◌, length, slice_get, refl, sym, ◌∙◌, subst, arith}
+use Rattle.std.specs.Prelude.{nat_le, if◌then◌else◌}
 use Rattle.std.specs.Int.{w64}
 use Rattle.std.specs.Option.{option_map_or}
 use Rattle.std.proofs.lemmas.Bool.{leb-true, eqb-true}
@@ -14,19 +14,18 @@ use Rattle.sc_base.specs.declared.value.Value.TheVariants.{Int, Null, Ptr}
 use Rattle.sc_layout.specs.Layout.{Arrangement, LaidObject}
 use Rattle.sc_layout.specs.Place.{IsPlace, extent_of}
 use Rattle.sc_tree.specs.Names.{Text}
-use Rattle.sc_isa.specs.Elements.{ints}
 use Rattle.sc_isa.specs.Pure.{is_pointer}
-use Rattle.sc_isa.specs.Deeds.{Done, lets_go, ends, sticks, clears, prints, fills, gets, misses, puts, sends, copies, waits, meets, Spotted, found, missing, nowhere, spotted, spanned, cleared, printing, filling, getting, putting, copied_from, copied, copying}
+use Rattle.sc_isa.specs.Deeds.{Done, lets_go, ends, sticks, clears, prints, fills, gets, misses, puts, sends, copies, waits, meets, Spotted, found, missing, nowhere, spotted, spanned, filling, getting, putting, copied_from, copied, copying}
 use Rattle.sc_isa.specs.Sound.{IsPlacedCopy, further}
 use Rattle.sc_core.specs.declared.operation.Action.{Action}
-use Rattle.sc_core.specs.declared.operation.Action.TheVariants.{Drop, Begin, Clear, Fill, Get, Put, Send, Copy, Print, Sync, Barrier, AllStoreSync}
+use Rattle.sc_core.specs.declared.operation.Action.TheVariants.{Copy, Print}
 use Rattle.sc_core.specs.Core.{Arguments, act}
 use Rattle.sc_core.specs.Kinds.{Kind, number, to as pointer_to, kind_of, numbers, Scope, IsLocal, IsPlaceOf, pointed, by_name, Uses, drop, begin, clear_number, clear_pointer, fill, get, put, send, copy, print, sync, barrier, all_store_sync}
-use Rattle.sc_core.specs.Table.{with_text, done_of}
+use Rattle.sc_core.specs.Table.{done_of}
 use Rattle.sc_core.specs.Typed.{begins}
 use Rattle.value_soundness.proofs.Values.{Points, IsOf, AreOf, IsCell}
-use Rattle.value_soundness.proofs.Outcomes.{AreInts, all_ints}
-use Rattle.value_soundness.proofs.Deeds.{Ground, SpotFits, spot_fits, place_is_pointer}
+use Rattle.value_soundness.proofs.Outcomes.{all_ints}
+use Rattle.value_soundness.proofs.Deeds.{SpotFits, spot_fits, place_is_pointer}
 
 module _ (layout : Arrangement) (exposed : List ℕ) where
   -- ---- spans

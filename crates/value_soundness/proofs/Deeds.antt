@@ -1,38 +1,31 @@
 -- What each step does with values of the kinds that it takes.
-use Rattle.std.proofs.Common.{◌≡◌, ◌≢◌, ℕ, zero, suc, ◌+◌, ◌*◌, ◌/◌, ◌%◌, ◌^◌, ◌<◌, ◌≤◌, ℤ, pos, negsuc, Result, Ok, Err, Option, Some, None, Bool, true, false, ◌==◌, ◌&&◌, List, [], ◌∷◌, ◌++◌, map, length, slice_get, refl, sym, ap, ◌∙◌, subst, arith}
-use Rattle.std.specs.Prelude.{nat_lt, nat_le, if◌then◌else◌, FitsSigned}
+use Rattle.std.proofs.Common.{◌≡◌, ℕ, ◌+◌, ◌^◌, ◌<◌, ℤ, Ok, Err, Option, Some, None, Bool, true, false, List, [], ◌∷◌, map, length, slice_get, refl, sym, ap, ◌∙◌, subst, arith}
+use Rattle.std.specs.Prelude.{nat_lt, if◌then◌else◌, FitsSigned}
 use Rattle.std.specs.Int.{w64}
-use Rattle.std.specs.Option.{option_map, option_map_or}
-use Rattle.std.specs.List.{All, Contains}
-use Rattle.std.proofs.lemmas.Bool.{ltb-true, leb-true, eqb-true}
-use Rattle.std.proofs.lemmas.List.Elements.{Contains-append_left, Contains-append_right}
+use Rattle.std.specs.Option.{option_map}
+use Rattle.std.specs.List.{Contains}
+use Rattle.std.proofs.lemmas.Bool.{ltb-true}
 use Rattle.std.proofs.lemmas.Option.{slice_get_within, slice_get-map}
 use Rattle.sc_base.specs.declared.shape.Shape.{Shape}
 use Rattle.sc_base.specs.declared.shape.Star.{Star}
-use Rattle.sc_base.specs.declared.shape.Ty.{Ty}
 use Rattle.sc_base.specs.declared.operator.Unary.TheVariants.{Minus, Not}
 use Rattle.sc_base.specs.declared.value.FaultKind.{FaultKind}
-use Rattle.sc_base.specs.declared.value.Place.{Place}
 use Rattle.sc_base.specs.declared.value.Value.{Value}
 use Rattle.sc_base.specs.declared.value.Value.TheVariants.{Int, Null, Ptr}
 use Rattle.sc_layout.specs.Layout.{Arrangement, LaidObject, IsLayout}
-use Rattle.sc_layout.specs.Place.{IsPlace, extent_of}
+use Rattle.sc_layout.specs.Place.{extent_of}
 use Rattle.sc_layout.specs.Pointer.{used_place}
-use Rattle.sc_isa.specs.Elements.{Outcome, gives, fails, wrong, ints, element}
-use Rattle.sc_isa.specs.Pure.{Pure, is_true, is_pointer, int_or_fault, same_value, computed, un, bin, glob, same as same_step, truth, elem, step as step_by, to_global as to_global_step, to_local as to_local_step, to_proc as to_proc_step}
-use Rattle.sc_isa.specs.Deeds.{Made, makes, faults, stuck, uses, sets, reads, writes, calls, Done, lets_go, ends, sticks, clears, prints, fills, gets, misses, puts, sends, copies, waits, meets, Spotted, found, missing, nowhere, place_or_fault, spotted, spanned, made_by, reading, writing, cleared, printing, filling, getting, putting, copied_from, copied, copying}
-use Rattle.sc_isa.specs.Sound.{IsPlacedCopy, further}
-use Rattle.sc_core.specs.declared.operation.Constant.{Constant}
+use Rattle.sc_isa.specs.Elements.{Outcome, gives, fails, wrong}
+use Rattle.sc_isa.specs.Pure.{Pure, is_true, is_pointer, same_value, computed, un, bin, glob, same as same_step, truth, elem, step as step_by, to_global as to_global_step, to_local as to_local_step, to_proc as to_proc_step}
+use Rattle.sc_isa.specs.Deeds.{Made, makes, faults, stuck, uses, sets, reads, writes, calls, Spotted, found, missing, nowhere, place_or_fault, spotted, made_by, reading, writing}
 use Rattle.sc_core.specs.declared.operation.Operation.{Operation}
-use Rattle.sc_core.specs.declared.operation.Operation.TheVariants.{Use, Element, Address, Own, Convert, Forward, Back, Binary, Unary, Same, Differ, IsNull, ToGlobal, ToProc, ToLocal, Set, Call, Read, Write}
-use Rattle.sc_core.specs.declared.operation.Action.{Action}
-use Rattle.sc_core.specs.declared.operation.Action.TheVariants.{Drop, Begin, Clear, Fill, Get, Put, Send, Copy, Print, Sync, Barrier, AllStoreSync}
+use Rattle.sc_core.specs.declared.operation.Operation.TheVariants.{Element, Address, Forward, Back, Binary, Unary, ToGlobal}
 use Rattle.sc_core.specs.Core.{Function}
 use Rattle.sc_core.specs.Kinds.{Kind, number, to, named, kind_of, kind_of_type, numbers, Scope, IsLocal, HasBegun, IsPlaceOf, pointed, by_name, HasIndices, Computes, forward, back, binary, Takes, use_, element as element_, address, own_pointer, own_cell, convert, computes, unary, same as same_, differ, is_null, to_global, to_proc, to_local, set, call, read, write}
 use Rattle.sc_core.specs.Table.{then_made, made_of}
 use Rattle.sc_core.specs.Forms.{exposed_by}
 use Rattle.value_soundness.proofs.Values.{Points, IsOf, AreOf, IsCell}
-use Rattle.value_soundness.proofs.Outcomes.{Given, AreInts, all_ints, bit_is, binary_given, unary_given, element_given, is_a_pointer, is_named, step_given, convert_given, own_given, own_named_given, to_global_given, to_proc_given}
+use Rattle.value_soundness.proofs.Outcomes.{Given, bit_is, binary_given, unary_given, element_given, is_a_pointer, is_named, step_given, convert_given, own_given, own_named_given, to_global_given, to_proc_given}
 
 -- what is known of where a source runs: its layout, in which its objects lie, and the node
 pub record Ground (layout : Arrangement) (node : ℕ) (objects : List Shape) : Type 0 where

@@ -1,8 +1,7 @@
 -- What is known of a layout's objects: their cells are not void, they have as many bounds as dimensions, and the cell at a
 -- flat index is one of the layout.
-use Rattle.std.proofs.Common.{◌≡◌, ℕ, zero, suc, ◌+◌, ◌*◌, ◌^◌, ◌<◌, ◌≤◌, Result, Ok, Err, Option, Some, None, Bool, true, false, List, [], ◌∷◌, ◌++◌, length, map, slice_get, refl, sym, ap, ◌∙◌, subst, arith}
+use Rattle.std.proofs.Common.{◌≡◌, ℕ, suc, ◌+◌, ◌^◌, ◌<◌, ◌≤◌, Result, Ok, Err, Some, None, Bool, true, false, List, [], ◌∷◌, ◌++◌, length, map, slice_get, refl, sym, ap, ◌∙◌, subst, arith}
 use Rattle.std.specs.Prelude.{nat_lt, if◌then◌else◌}
-use Rattle.std.specs.List.{All}
 use Rattle.std.specs.Result.{result_map_both}
 use Rattle.std.proofs.lemmas.List.{length-append}
 use Rattle.std.proofs.lemmas.Option.{slice_get_within, slice_get-map, get_or_from_slice_get}
@@ -10,10 +9,9 @@ use Rattle.std.proofs.lemmas.Bool.{ltb-true}
 use Rattle.sc_base.specs.declared.shape.Shape.{Shape}
 use Rattle.sc_base.specs.declared.value.Place.{Place}
 use Rattle.sc_layout.specs.Layout.{Arrangement, LaidObject, IsLayout, IsLawful as IsLawfulShape, each_of, first_then, bound_of, object_of, product, cells_of}
-use Rattle.sc_layout.specs.Place.{IsPlace, place_of, place_in, spread_place, extent_of}
+use Rattle.sc_layout.specs.Place.{IsPlace, place_of, place_in, extent_of}
 use Rattle.sc_layout.specs.declared.error.LayoutError.{LayoutError}
-use Rattle.sc_layout.specs.Laws.{OneToOne}
-use Rattle.sc_layout.proofs.Kept.{IsGiven, object-given, small}
+use Rattle.sc_layout.proofs.Kept.{object-given, small}
 use Rattle.sc_layout.proofs.OneToOne.{elements_are_places}
 
 -- ---- shapes

@@ -9,3 +9,4 @@ pub mod Promises
 pub mod Safety
 pub mod Walks
 pub mod StatementWalks
+pub mod Sources

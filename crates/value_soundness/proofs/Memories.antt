@@ -1,6 +1,6 @@
 -- Memories whose locals are of their kinds, and where each get that has not landed is awaited by its local.
-use Rattle.std.proofs.Common.{◌≡◌, ◌≢◌, ℕ, zero, suc, ◌+◌, ◌<◌, ◌≤◌, ◌⊎◌, inl, inr, Option, Some, None, Bool, true, false, ◌==◌, List, [], ◌∷◌, ◌++◌, map, length, slice_get, slice_index_or, slice_set, eq-eqb, refl, sym, ap, ◌∙◌, subst, arith}
-use Rattle.std.specs.Prelude.{pos, replicate, if◌then◌else◌}
+use Rattle.std.proofs.Common.{◌≡◌, ℕ, zero, suc, ◌+◌, ◌<◌, ◌⊎◌, inl, inr, Some, List, [], ◌∷◌, ◌++◌, map, length, slice_get, slice_index_or, slice_set, eq-eqb, refl, sym, ap, ◌∙◌, subst, arith}
+use Rattle.std.specs.Prelude.{pos, replicate}
 use Rattle.std.specs.List.{Contains}
 use Rattle.std.proofs.lemmas.List.{get_or-set_other, length-set, map-append, length-append, length-map, length-replicate}
 use Rattle.std.proofs.lemmas.Grind.{get_or-set_at}
@@ -227,9 +227,11 @@ module _ (layout : Arrangement) (exposed : List ℕ) where
   frames_landed [] (f ∷ fs) s v h i l = absurd h
   frames_landed (t ∷ ts) [] s v h i l = absurd h
   frames_landed (t ∷ ts) (f ∷ fs) s v h (here_typed level local) l =
-      subst (FramesFit (t ∷ ts)) (sym (landed_here s v f fs (level ∙ sym (same_length ts fs h.1))))
-      (frame_set t t f s.local (kind_of local.cell) (has v) (grows_itself t s.local) h.0 local.local
-      (of_cell layout exposed local.cell s.place v local.is_cell l), h.1)
+      subst (FramesFit (t ∷ ts)) (sym (landed_here s v f fs (level ∙ sym (same_length ts fs h.1)))) (
+        frame_set t t f s.local (kind_of local.cell) (has v) (grows_itself t s.local) h.0 local.local
+            (of_cell layout exposed local.cell s.place v local.is_cell l),
+        h.1,
+      )
   frames_landed (t ∷ ts) (f ∷ fs) s v h (there_typed level i) l =
       let n = same_length ts fs h.1 in
       subst (FramesFit (t ∷ ts)) (sym (landed_there s v f fs (omega (arith, level, n))))

@@ -1,6 +1,6 @@
 -- What the operators give of numbers of 64 bits has 64 bits.
-use Rattle.std.proofs.Common.{◌≡◌, ℕ, zero, suc, ◌-◌, ◌+◌, ◌*◌, ◌/◌, ◌^◌, ◌<◌, ℤ, pos, negsuc, ◌+ℤ◌, ◌-ℤ◌, ◌*ℤ◌, neg_ℤ, Result, Ok, Err, Bool, true, false, not, ◌&&◌, if◌then◌else◌, nat_lt, refl, ap, ◌∙◌, arith}
-use Rattle.std.specs.Prelude.{FitsSigned, int_lt, int_le, int_div, int_rem, bit_and}
+use Rattle.std.proofs.Common.{◌≡◌, ℕ, zero, suc, ◌+◌, ◌^◌, ℤ, pos, negsuc, ◌+ℤ◌, ◌-ℤ◌, ◌*ℤ◌, neg_ℤ, Result, Ok, Err, Bool, true, false, ◌&&◌, if◌then◌else◌, nat_lt, refl, ap, ◌∙◌, arith}
+use Rattle.std.specs.Prelude.{FitsSigned, int_lt, int_le, int_div, int_rem}
 use Rattle.std.specs.Int.{w64, cast_signed}
 use Rattle.std.proofs.lemmas.Bool.{ltb-true, ltb-false, leb-true}
 use Rattle.std.proofs.Math.IntN.{+ℤ-neg_ℤ_cancel}

@@ -1,5 +1,5 @@
 -- What is computed from values of their kinds is of its kind, or a fault.
-use Rattle.std.proofs.Common.{◌≡◌, ℕ, zero, suc, ◌+◌, ◌*◌, ◌/◌, ◌%◌, ◌^◌, ◌<◌, ◌≤◌, ℤ, pos, negsuc, ◌+ℤ◌, Result, Ok, Err, Option, Some, None, Bool, true, false, ◌&&◌, List, [], ◌∷◌, ◌++◌, length, slice_get, refl, sym, ap, ◌∙◌, subst, arith}
+use Rattle.std.proofs.Common.{◌≡◌, ℕ, zero, suc, ◌+◌, ◌*◌, ◌/◌, ◌%◌, ◌^◌, ◌<◌, ◌≤◌, ℤ, pos, negsuc, ◌+ℤ◌, Result, Ok, Err, Option, Some, None, Bool, true, false, ◌&&◌, List, [], ◌∷◌, length, slice_get, refl, ap, ◌∙◌, arith}
 use Rattle.std.specs.Prelude.{nat_lt, nat_le, if◌then◌else◌, FitsSigned}
 use Rattle.std.specs.Int.{w64}
 use Rattle.std.specs.Option.{option_map}
@@ -18,9 +18,9 @@ use Rattle.sc_base.specs.declared.value.Value.{Value}
 use Rattle.sc_base.specs.declared.value.Value.TheVariants.{Int, Null, Ptr}
 use Rattle.sc_layout.specs.Layout.{Arrangement, LaidObject, IsLayout}
 use Rattle.sc_layout.specs.Place.{place_of}
-use Rattle.sc_layout.specs.Pointer.{pointer_at, at_offset, at_round, global_step, spread_step, with_node, global_of, node_of}
-use Rattle.sc_isa.specs.Elements.{Outcome, gives, fails, wrong, Flat, within, outside, amiss, flat_index, and_int, ints, pointer_to, pointer_at_flat, element}
-use Rattle.sc_isa.specs.Pure.{value_or_fault, int_or_fault, bit, is_true, same_value, is_pointer, of_pointer, stepped}
+use Rattle.sc_layout.specs.Pointer.{pointer_at, at_offset, at_round, with_node, global_of, node_of}
+use Rattle.sc_isa.specs.Elements.{Outcome, gives, fails, wrong, Flat, within, outside, amiss, flat_index, ints, pointer_to, pointer_at_flat, element}
+use Rattle.sc_isa.specs.Pure.{value_or_fault, int_or_fault, bit, is_pointer, of_pointer, stepped}
 use Rattle.sc_core.specs.Kinds.{Kind, number, to, named, numbers}
 use Rattle.value_soundness.proofs.Numbers.{OkFits, binary_fits, unary_fits}
 use Rattle.value_soundness.proofs.Values.{Points, IsOf, AreOf}

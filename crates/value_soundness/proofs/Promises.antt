@@ -1,18 +1,16 @@
 -- What a source promises of all that it does from a moment on, under lawful answers.
-use Rattle.std.proofs.Common.{◌≡◌, ℕ, zero, suc, ◌+◌, ◌<◌, Option, Some, None, Bool, true, false, ◌&&◌, List, [], ◌∷◌, ◌++◌, map, length, slice_get, refl, sym, ap, ◌∙◌, subst, arith}
-use Rattle.std.specs.List.{All, Contains}
+use Rattle.std.proofs.Common.{◌≡◌, ℕ, Bool, true, false, ◌&&◌, List, [], ◌∷◌, ◌++◌, refl}
+use Rattle.std.specs.List.{All}
 use Rattle.std.proofs.lemmas.List.Elements.{All-head, All-tail}
-use Rattle.resumption.specs.Resumption.{Doing, Asks, Makes, Says, Stops}
-use Rattle.resumption.specs.Forgetting.{forget, made_if}
+use Rattle.resumption.specs.Resumption.{Asks, Makes, Says, Stops}
 use Rattle.sc_base.specs.declared.value.Place.{Place}
 use Rattle.sc_base.specs.declared.value.Value.{Value}
 use Rattle.sc_layout.specs.Layout.{Arrangement}
-use Rattle.sc_layout.specs.Place.{Fits}
 use Rattle.sc_isa.specs.Fitting.{fits, fits_all}
 use Rattle.sc_isa.proofs.Exact.{exact}
 use Rattle.sc_meaning.specs.declared.request.Request.{Request}
-use Rattle.sc_meaning.specs.declared.request.Request.TheVariants.{Read, Write, Get, Put, Store, Copy, Sync, Barrier, AllStoreSync}
-use Rattle.sc_meaning.specs.Asking.{Event, Requested, Came, Answer, Shown, Landed, Passed, Broken, Halt, Finishes, Breaks, PointedDoing, SourceDoing, fits_read, fits_sync, fits_barrier, request_in, request_or, without_points}
+use Rattle.sc_meaning.specs.declared.request.Request.TheVariants.{Read, Get, Sync, Barrier, AllStoreSync}
+use Rattle.sc_meaning.specs.Asking.{Requested, Came, Answer, Finishes, Breaks, PointedDoing, SourceDoing, fits_read, fits_sync, fits_barrier, without_points}
 use Rattle.value_soundness.specs.Lawful.{NamesOnly, IsLawful, IsLawfulRequest, AnswerNamesOnly}
 use Rattle.value_soundness.proofs.Memories.{AreLawful}
 

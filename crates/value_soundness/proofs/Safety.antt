@@ -1,30 +1,28 @@
 -- What comes after is safe where it keeps its promises after every memory whose locals are of their kinds: a logical
 -- predicate over continuations, after Tait, "Intensional interpretations of functionals of finite type" (1967). A step on
 -- values of the kinds that it takes is safe before what is safe.
-use Rattle.std.proofs.Common.{◌≡◌, ℕ, zero, suc, ◌+◌, ◌<◌, ◌⊎◌, inl, inr, Option, Some, None, Bool, true, false, List, [], ◌∷◌, ◌++◌, map, length, slice_get, refl, sym, ap, ◌∙◌, subst, arith}
-use Rattle.std.specs.Prelude.{ℤ, pos, negsuc}
-use Rattle.std.specs.List.{All, Contains}
-use Rattle.std.proofs.lemmas.List.Elements.{Contains-append_cases, Contains-append_right}
-use Rattle.resumption.specs.Resumption.{Asks, Makes, Says, Stops}
+use Rattle.std.proofs.Common.{◌≡◌, ℕ, zero, suc, inl, inr, Some, Bool, true, false, List, [], ◌∷◌, ◌++◌, map, slice_get, refl, sym, ap, subst, arith}
+use Rattle.std.specs.Prelude.{pos, negsuc}
+use Rattle.std.specs.List.{Contains}
+use Rattle.std.proofs.lemmas.List.Elements.{Contains-append_cases}
 use Rattle.sc_base.specs.declared.shape.Star.{Star}
 use Rattle.sc_base.specs.declared.value.CopyMode.{CopyMode}
 use Rattle.sc_base.specs.declared.value.Place.{Place}
 use Rattle.sc_base.specs.declared.value.Value.{Value}
 use Rattle.sc_base.specs.declared.value.Value.TheVariants.{Int, Null, Ptr}
 use Rattle.sc_layout.specs.Layout.{Arrangement, LaidObject}
-use Rattle.sc_isa.specs.Elements.{Outcome, gives, fails, wrong}
-use Rattle.sc_isa.specs.Pure.{computed, truth, is_true, bit}
+use Rattle.sc_isa.specs.Pure.{is_true, bit}
 use Rattle.sc_isa.specs.Deeds.{Made, makes, faults, stuck, uses, sets, reads, writes, calls, Done, lets_go, ends, sticks, clears, prints, fills, gets, misses, puts, sends, copies, waits, meets}
 use Rattle.sc_core.specs.Core.{Function}
-use Rattle.sc_core.specs.Kinds.{Kind, number, to as pointer_to, kind_of, kind_of_type, Scope}
+use Rattle.sc_core.specs.Kinds.{Kind, number, kind_of, kind_of_type, Scope}
 use Rattle.sc_meaning.specs.Asking.{PointedDoing, fits_read, fits_sync, fits_barrier, Answer, Shown, Landed, Passed, Broken}
-use Rattle.sc_meaning.specs.Memory.{Slot, has, awaits, Memory, top, slot, with_slot, with_get, places, synced}
+use Rattle.sc_meaning.specs.Memory.{Slot, has, awaits, Memory, slot, with_slot, with_get, places, synced}
 use Rattle.sc_meaning.specs.Steps.{Rest, Calls, shown_or_zero, landed_or_none, unless_broken, used, none_awaits, counted, decided_by, decided, perform, enact}
-use Rattle.value_soundness.specs.Lawful.{NamesOnly, AnswerNamesOnly}
+use Rattle.value_soundness.specs.Lawful.{AnswerNamesOnly}
 use Rattle.value_soundness.proofs.Values.{IsOf, AreOf, IsCell, of_cell, to_cell}
 use Rattle.value_soundness.proofs.Deeds.{MadeFits}
 use Rattle.value_soundness.proofs.Actions.{DoneFits}
-use Rattle.value_soundness.proofs.Memories.{Typing, SlotFits, Good, Grows, local_fits, good_set, good_get, good_sync, good_restrict, NoneAwaits}
+use Rattle.value_soundness.proofs.Memories.{Typing, SlotFits, Good, Grows, local_fits, good_set, good_get, good_sync, NoneAwaits}
 use Rattle.value_soundness.proofs.Promises.{PromisesPointed, lawful_read, lawful_all}
 
 -- what the locals are in this scope

@@ -1,23 +1,20 @@
 -- Typed statements are safe before what is safe.
-use Rattle.std.proofs.Common.{◌≡◌, ℕ, zero, suc, ◌+◌, ◌<◌, ◌⊎◌, inl, inr, Option, Some, None, Bool, true, false, List, [], ◌∷◌, ◌++◌, map, length, slice_get, refl, sym, ap, ◌∙◌, subst, arith}
+use Rattle.std.proofs.Common.{◌≡◌, ℕ, zero, suc, ◌+◌, inl, inr, Option, Some, None, Bool, true, false, List, [], ◌∷◌, ◌++◌, length, refl, subst, arith}
 use Rattle.std.specs.List.{Contains}
 use Rattle.std.proofs.lemmas.List.Elements.{Contains-append_left, Contains-append_right, Contains-append_cases}
-use Rattle.sc_base.specs.declared.operator.Binary.TheVariants as op
-use Rattle.sc_base.specs.declared.shape.Star.{Star}
 use Rattle.sc_base.specs.declared.value.Place.{Place}
 use Rattle.sc_base.specs.declared.value.Value.{Value}
-use Rattle.sc_core.specs.declared.operation.Constant.TheVariants.{Mine, Procs}
-use Rattle.sc_core.specs.Core.{Core, Arguments, Does, nothing, break, continue, then_, act, choose, loop, return}
+use Rattle.sc_core.specs.Core.{Core, Does, nothing, break, continue, then_, act, choose, loop, return}
 use Rattle.sc_core.specs.Kinds.{Kind, number, to as pointer_to, Scope, HasBegun, of_mine, of_procs, binary, use_, computes, set, drop}
 use Rattle.sc_core.specs.Table.{done_of}
-use Rattle.sc_core.specs.Forms.{exposes, exposes_all, exposes_in}
+use Rattle.sc_core.specs.Forms.{exposes, exposes_in}
 use Rattle.sc_core.specs.Typed.{Has, begins, after, IsMineLoop, IsTypedDoes}
 use Rattle.sc_core.specs.Statements.{mine_first, mine_test, mine_next}
 use Rattle.sc_meaning.specs.Memory.{Memory, top}
-use Rattle.sc_meaning.specs.Points.{size, sizes, size_of}
-use Rattle.sc_meaning.specs.Steps.{Rest, Calls, none_awaits, counted, mode_of}
-use Rattle.sc_meaning.specs.Meaning.{Setting, Jumps, rounds, pass, does}
-use Rattle.value_soundness.proofs.Values.{IsOf, AreOf}
+use Rattle.sc_meaning.specs.Points.{size_of}
+use Rattle.sc_meaning.specs.Steps.{Rest, Calls, none_awaits, mode_of}
+use Rattle.sc_meaning.specs.Meaning.{Setting, Jumps, rounds, does}
+use Rattle.value_soundness.proofs.Values.{IsOf}
 use Rattle.value_soundness.proofs.Deeds.{Ground, Within}
 use Rattle.value_soundness.proofs.Layouts.{not_void}
 use Rattle.value_soundness.proofs.Actions.{uses_fits}
@@ -57,16 +54,16 @@ abbrev pub If : Bool → Type 0 → Type 0
 If true A = A
 If false A = Unit {0}
 
+-- a return from the function, whatever has begun
+abbrev pub SafeBack : Setting → (exposed : List ℕ) → List Typing → (locals : List Kind) → (result : Kind) → (Value → Rest) → Type 0
+SafeBack here exposed ts locals result back =
+    (v : Value) (line : ℕ) (gs : List Place) (m : Memory) (left : ℕ) → IsOf here.layout exposed result v
+    → Good here.layout exposed (record { locals = locals; begun = [] } ∷ ts) gs m
+    → PromisesPointed here.layout exposed gs (none_awaits line (top m.frames) (back v m left))
+
 module _ (here : Setting) (exposed : List ℕ) (call : Calls) (safe : SafeCalls here.layout exposed here.program.functions call) (ts : List Typing) where
   abbrev SafeRest : Scope → Rest → Type 0
   SafeRest scope rest = Safe here.layout exposed (typing_of scope ∷ ts) rest
-
-  -- a return from the function, whatever has begun
-  abbrev pub SafeBack : List Kind → Kind → (Value → Rest) → Type 0
-  SafeBack locals result back =
-      (v : Value) (line : ℕ) (gs : List Place) (m : Memory) (left : ℕ) → IsOf here.layout exposed result v
-      → Good here.layout exposed (record { locals = locals; begun = [] } ∷ ts) gs m
-      → PromisesPointed here.layout exposed gs (none_awaits line (top m.frames) (back v m left))
 
   -- ---- what has begun
 
@@ -124,12 +121,12 @@ module _ (here : Setting) (exposed : List ℕ) (call : Calls) (safe : SafeCalls 
   -- the statement is safe before what is safe
   abbrev IsSafe : Scope → (result : Kind) → (breaks continues : Bool) → Does → Type 0
   IsSafe scope result breaks continues s =
-      (k : ℕ) (j : Jumps) (rest : Rest) → SafeBack scope.locals result j.back → If breaks (SafeRest scope j.out)
+      (k : ℕ) (j : Jumps) (rest : Rest) → SafeBack here exposed ts scope.locals result j.back → If breaks (SafeRest scope j.out)
       → If continues (SafeRest scope j.again) → SafeRest (after scope s) rest → SafeRest scope (does here call s k j rest)
 
   loop_safe : (scope : Scope) (result : Kind) (mine : Option ℕ) (before body next : Does) → IsSafe scope result true false before
       → IsSafe scope result true true body → IsSafe scope result true false next → (k : ℕ) (j : Jumps) (rest : Rest)
-      → SafeBack scope.locals result j.back → SafeRest scope rest → SafeRest scope (does here call (loop mine before body next) k j rest)
+      → SafeBack here exposed ts scope.locals result j.back → SafeRest scope rest → SafeRest scope (does here call (loop mine before body next) k j rest)
   loop_safe scope result mine before body next is_before is_body is_next k j rest back ok gs m left g =
       let t = k + size_of before in
       let u = t + 1 + size_of body in
@@ -151,7 +148,7 @@ module _ (here : Setting) (exposed : List ℕ) (call : Calls) (safe : SafeCalls 
 
   pub does_safe : (s : Does) (scope : Scope) → Ground here.layout here.node scope.objects → IsFrom scope
       → (result : Kind) (breaks continues : Bool) (k : ℕ) (j : Jumps) (rest : Rest) → IsTypedDoes scope result breaks continues s
-      → Within exposed (exposes_in s) → SafeBack scope.locals result j.back → If breaks (SafeRest scope j.out)
+      → Within exposed (exposes_in s) → SafeBack here exposed ts scope.locals result j.back → If breaks (SafeRest scope j.out)
       → If continues (SafeRest scope j.again) → SafeRest (after scope s) rest → SafeRest scope (does here call s k j rest)
   does_safe nothing scope ground from result breaks continues k j rest h w back out again next gs m left g = next gs m left g
   does_safe break scope ground from result breaks continues k j rest h w back out again next gs m left g =

@@ -1,16 +1,15 @@
 -- Values of a kind, and what may stand in a cell of a kind.
-use Rattle.std.proofs.Common.{◌≡◌, ◌≢◌, ℕ, zero, suc, ◌^◌, ◌<◌, ℤ, pos, Option, Some, None, Bool, true, false, List, [], ◌∷◌, ◌++◌, map, length, slice_get, IsSomeAnd, refl, sym, ap, ◌∙◌, subst, arith}
+use Rattle.std.proofs.Common.{◌≡◌, ◌≢◌, ℕ, ◌^◌, ◌<◌, ℤ, Option, Some, None, false, List, [], ◌∷◌, ◌++◌, slice_get, IsSomeAnd, refl, sym, ap, ◌∙◌, subst}
 use Rattle.std.specs.Prelude.{FitsSigned}
 use Rattle.std.specs.Int.{w64}
-use Rattle.std.specs.List.{All, Contains}
+use Rattle.std.specs.List.{Contains}
 use Rattle.sc_base.specs.declared.shape.Star.{Star}
-use Rattle.sc_base.specs.declared.shape.Shape.{Shape}
 use Rattle.sc_base.specs.declared.shape.Ty.{Ty}
 use Rattle.sc_base.specs.declared.value.Place.{Place}
 use Rattle.sc_base.specs.declared.value.Value.{Value}
 use Rattle.sc_base.specs.declared.value.Value.TheVariants.{Int, Null, Ptr}
-use Rattle.sc_layout.specs.Layout.{Arrangement, LaidObject, IsLayout, IsLawful as IsLawfulShape}
-use Rattle.sc_layout.specs.Place.{IsPlace, IsPointerTo, FitsType, Fits}
+use Rattle.sc_layout.specs.Layout.{Arrangement, LaidObject}
+use Rattle.sc_layout.specs.Place.{IsPlace, IsPointerTo, FitsType}
 use Rattle.sc_core.specs.Places.{without_last}
 use Rattle.sc_core.specs.Kinds.{Kind, number, to, named, kind_of}
 use Rattle.value_soundness.specs.Lawful.{NamesOnly, IsLawful}

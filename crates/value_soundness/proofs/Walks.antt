@@ -1,36 +1,24 @@
 -- Typed expressions, arguments and statements are safe before what is safe.
-use Rattle.std.proofs.Common.{◌≡◌, ℕ, zero, suc, ◌+◌, ◌<◌, ◌⊎◌, inl, inr, Option, Some, None, Bool, true, false, List, [], ◌∷◌, ◌++◌, map, length, slice_get, append_assoc, refl, sym, ap, ◌∙◌, subst, arith}
-use Rattle.std.specs.Prelude.{pos, FitsSigned}
-use Rattle.std.specs.Int.{w64}
-use Rattle.std.specs.List.{Contains}
+use Rattle.std.proofs.Common.{◌≡◌, ℕ, Option, Some, None, true, false, List, [], ◌∷◌, ◌++◌, length, sym, subst, arith}
+use Rattle.std.specs.Prelude.{pos}
 use Rattle.std.proofs.lemmas.List.Elements.{Contains-append_left, Contains-append_right}
-use Rattle.sc_base.specs.declared.operator.Binary.TheVariants as op
-use Rattle.sc_base.specs.declared.shape.Star.{Star}
-use Rattle.sc_base.specs.declared.value.Place.{Place}
 use Rattle.sc_base.specs.declared.value.Value.{Value}
 use Rattle.sc_base.specs.declared.value.Value.TheVariants.{Int}
-use Rattle.sc_layout.specs.Layout.{Arrangement}
 use Rattle.sc_core.specs.declared.operation.Constant.{Constant}
-use Rattle.sc_core.specs.declared.operation.Constant.TheVariants.{Number, Null, Mine, Procs}
 use Rattle.sc_core.specs.declared.operation.Operation.{Operation}
 use Rattle.sc_core.specs.declared.operation.Operation.TheVariants.{Read, Write}
-use Rattle.sc_core.specs.Core.{Core, constant, step, choice, update, Arguments, none, argument, Does, nothing, break, continue, then_, act, choose, loop, return, Function, Program}
-use Rattle.sc_core.specs.Kinds.{Kind, number, to as pointer_to, kind_of, kind_of_type, Scope, HasBegun, IsConstant, of_number, of_null, of_mine, of_procs, IsPlaceOf, Computes, binary, Takes, use_, computes, set, read, write, drop}
-use Rattle.sc_core.specs.Table.{made_of, done_of}
-use Rattle.sc_core.specs.Forms.{exposed_by, exposes, exposes_all, exposes_in}
-use Rattle.sc_core.specs.Typed.{TakesBack, Has, Have, begins, after, IsMineLoop, IsTypedDoes}
-use Rattle.sc_core.specs.Statements.{used as used_local, mine_first, mine_test, mine_next}
-use Rattle.sc_meaning.specs.Memory.{Memory, top}
-use Rattle.sc_meaning.specs.Points.{size, sizes, size_of}
-use Rattle.sc_meaning.specs.Steps.{Rest, Calls, none_awaits, counted, mode_of}
-use Rattle.sc_meaning.specs.Meaning.{Setting, constant_of, Jumps, rounds, pass, performed, taken_back, value, values, does}
+use Rattle.sc_core.specs.Core.{Core, constant, step, choice, update, Arguments, none, argument, Function}
+use Rattle.sc_core.specs.Kinds.{Kind, number, to as pointer_to, kind_of, Scope, IsConstant, of_number, of_null, of_mine, of_procs, read, write}
+use Rattle.sc_core.specs.Table.{made_of}
+use Rattle.sc_core.specs.Forms.{exposed_by, exposes, exposes_all}
+use Rattle.sc_core.specs.Typed.{TakesBack, Has, Have}
+use Rattle.sc_meaning.specs.Steps.{Rest, Calls}
+use Rattle.sc_meaning.specs.Meaning.{Setting, constant_of, performed, taken_back, value, values}
 use Rattle.value_soundness.proofs.Values.{IsOf, AreOf}
 use Rattle.value_soundness.proofs.Deeds.{Ground, Within, MadeFits, computes_fits, takes_fits}
 use Rattle.value_soundness.proofs.Layouts.{not_void}
-use Rattle.value_soundness.proofs.Actions.{uses_fits}
-use Rattle.value_soundness.proofs.Memories.{Typing, Good, good_restrict}
-use Rattle.value_soundness.proofs.Promises.{PromisesPointed}
-use Rattle.value_soundness.proofs.Safety.{typing_of, with_begun, Safe, SafeWith, SafeCalls, counted_safe, number_test, pointer_test, performs, enacts}
+use Rattle.value_soundness.proofs.Memories.{Typing}
+use Rattle.value_soundness.proofs.Safety.{typing_of, Safe, SafeWith, SafeCalls, number_test, pointer_test, performs}
 
 -- ---- exposed objects
 

@@ -1,6 +1,6 @@
 -- Soundness of values, for sources that are typed: what is well typed does not go wrong, as in Milner, "A theory of type
 -- polymorphism in programming" (1978).
-use Rattle.std.specs.Prelude.{◌≡◌, ℕ, ◌^◌, ◌<◌, List, map, IsSome}
+use Rattle.std.specs.Prelude.{ℕ, ◌^◌, ◌<◌, List, map, IsSome}
 use Rattle.std.specs.List.{All}
 use Rattle.resumption.specs.Resumption.{run_of, follow}
 use Rattle.sc_layout.specs.Layout.{Arrangement, IsLayout}
