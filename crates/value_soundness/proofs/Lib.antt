@@ -10,3 +10,5 @@ pub mod Safety
 pub mod Walks
 pub mod StatementWalks
 pub mod Sources
+pub mod Answered
+pub mod Gets
