@@ -12,3 +12,4 @@ pub mod StatementWalks
 pub mod Sources
 pub mod Answered
 pub mod Gets
+pub mod Effects

@@ -45,11 +45,11 @@ pub record IsCell (layout : Arrangement) (cell : List Star) (place : Place) : Ty
 
 -- ---- what fits a cell is of its kind
 
-some_inv : {A : Type 0} (P : A → Type 0) (o : Option A) (a : A) → o ≡ Some a → IsSomeAnd o P → P a
+pub some_inv : {A : Type 0} (P : A → Type 0) (o : Option A) (a : A) → o ≡ Some a → IsSomeAnd o P → P a
 some_inv P None a e h = absurd h
 some_inv P (Some b) a e h = subst P (let s : b ≡ a = cc in s) h
 
-some_intro : {A : Type 0} (P : A → Type 0) (o : Option A) (a : A) → o ≡ Some a → P a → IsSomeAnd o P
+pub some_intro : {A : Type 0} (P : A → Type 0) (o : Option A) (a : A) → o ≡ Some a → P a → IsSomeAnd o P
 some_intro P None a e h = absurd (cc)
 some_intro P (Some b) a e h = subst P (let s : a ≡ b = cc in s) h
 
