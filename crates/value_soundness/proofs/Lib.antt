@@ -13,3 +13,4 @@ pub mod Sources
 pub mod Answered
 pub mod Gets
 pub mod Effects
+pub mod Standings
