@@ -14,3 +14,4 @@ pub mod Answered
 pub mod Gets
 pub mod Effects
 pub mod Standings
+pub mod Histories

@@ -4,4 +4,4 @@
 
 pub mod laws;
 
-pub use laws::runs_are_lawful;
+pub use laws::{legal_pasts_are_lawful, runs_are_lawful};
