@@ -1,9 +1,9 @@
 -- Where answers lead: what was done up to the last of them, and what is left. The next request that is asked is answered
 -- next, and nothing is done behind it before.
-use Rattle.std.proofs.Common.{◌≡◌, ℕ, zero, suc, ◌+◌, ◌<◌, ◌≤◌, Option, Some, None, Bool, true, false, if◌then◌else◌, List, [], ◌∷◌, ◌++◌, length, slice_get, append_assoc, refl, sym, ap, ◌∙◌, subst, arith}
+use Rattle.std.proofs.Common.{◌≡◌, ℕ, Option, Some, None, Bool, true, false, List, [], ◌∷◌, ◌++◌, refl, sym, ap, ◌∙◌, subst}
 use Rattle.std.specs.Prelude.{IsSome}
 use Rattle.std.specs.Option.{option_map}
-use Rattle.resumption.specs.Resumption.{Doing, Asks, Makes, Says, Stops, RunOf, run_of, Followed, event_before, text_before, follow}
+use Rattle.resumption.specs.Resumption.{Doing, Asks, Makes, Says, Stops, run_of, Followed, event_before, text_before, follow}
 use Rattle.sc_base.specs.declared.value.Place.{Place}
 use Rattle.sc_layout.specs.Layout.{Arrangement}
 use Rattle.sc_meaning.specs.declared.request.Request.{Request}

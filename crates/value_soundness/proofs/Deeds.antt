@@ -28,7 +28,7 @@ use Rattle.value_soundness.proofs.Values.{Points, IsOf, AreOf, IsCell}
 use Rattle.value_soundness.proofs.Outcomes.{Given, bit_is, binary_given, unary_given, element_given, is_a_pointer, is_named, step_given, convert_given, own_given, own_named_given, to_global_given, to_proc_given}
 
 -- what is known of where a source runs: its layout, in which its objects lie, and the node
-pub record Ground (layout : Arrangement) (node : ℕ) (objects : List Shape) : Type 0 where
+pub record Footing (layout : Arrangement) (node : ℕ) (objects : List Shape) : Type 0 where
   pub laid : IsLayout layout
   pub few : layout.nodes < 2 ^ 32
   pub shapes : map (λ (o : LaidObject). o.shape) layout.objects ≡ objects
@@ -45,12 +45,12 @@ laid_by layout object shape None at h = absurd (cc)
 laid_by layout object shape (Some laid) at h = record { laid = laid; laid_is = at; shape_is = cc }
 
 -- the object that has this shape
-pub laid_of : (layout : Arrangement) (node : ℕ) (objects : List Shape) → Ground layout node objects → (object : ℕ) (shape : Shape)
+pub laid_of : (layout : Arrangement) (node : ℕ) (objects : List Shape) → Footing layout node objects → (object : ℕ) (shape : Shape)
     → slice_get objects object ≡ Some shape → Laid layout object shape
-laid_of layout node objects ground object shape e =
+laid_of layout node objects footing object shape e =
     laid_by layout object shape (slice_get layout.objects object) refl
     (sym (slice_get-map (λ (o : LaidObject). o.shape) layout.objects object)
-    ∙ ap (λ shapes. slice_get shapes object) ground.shapes ∙ e)
+    ∙ ap (λ shapes. slice_get shapes object) footing.shapes ∙ e)
 
 -- each of these objects is exposed
 abbrev pub Within : (exposed : List ℕ) → List ℕ → Type 0
@@ -137,7 +137,7 @@ module _ (layout : Arrangement) (exposed : List ℕ) (scope : Scope) where
   write_fits cell v (missing fault) h f = tt
   write_fits cell v nowhere h f = absurd h
 
-  module _ (node : ℕ) (ground : Ground layout node scope.objects) where
+  module _ (node : ℕ) (footing : Footing layout node scope.objects) where
     abbrev Fits : Operation → List Value → Kind → Type 0
     Fits operation vs k = MadeFits k (made_of layout node operation vs)
 
@@ -214,11 +214,11 @@ module _ (layout : Arrangement) (exposed : List ℕ) (scope : Scope) where
         → n ≡ length s.left + length s.right → AreOf layout exposed (numbers n) vs
         → Fits (Element o n plain) vs (named s.spread s.ty.stars)
     element_made o n plain s vs at count f =
-        let l = laid_of layout node scope.objects ground o s at in
+        let l = laid_of layout node scope.objects footing o s at in
         let c : n ≡ length l.laid.shape.left + length l.laid.shape.right =
         count ∙ ap (λ (s : Shape). length s.left + length s.right) (sym l.shape_is) in
         pure_made (named s.spread s.ty.stars) (elem o n) vs
-        (element_given layout exposed ground.laid ground.few (named s.spread s.ty.stars) o n l.laid vs l.laid_is
+        (element_given layout exposed footing.laid footing.few (named s.spread s.ty.stars) o n l.laid vs l.laid_is
         (omega (arith, c)) (omega (arith, c))
         (λ at offset p. subst (λ (s : Shape). Points layout s.ty.stars o at offset) l.shape_is p) f)
 
@@ -226,11 +226,11 @@ module _ (layout : Arrangement) (exposed : List ℕ) (scope : Scope) where
         → HasIndices s n → Contains exposed o → AreOf layout exposed (numbers n) vs
         → Fits (Address o n) vs (to s.ty.stars)
     address_made o n s vs at has c f =
-        let l = laid_of layout node scope.objects ground o s at in
+        let l = laid_of layout node scope.objects footing o s at in
         let same : length l.laid.shape.left + length l.laid.shape.right ≡ length s.left + length s.right =
         ap (λ (s : Shape). length s.left + length s.right) l.shape_is in
         pure_made (to s.ty.stars) (elem o n) vs
-        (element_given layout exposed ground.laid ground.few (to s.ty.stars) o n l.laid vs l.laid_is
+        (element_given layout exposed footing.laid footing.few (to s.ty.stars) o n l.laid vs l.laid_is
         (omega (arith, same, has.enough)) (omega (arith, same, has.not_more))
         (λ at offset p. (subst (λ (s : Shape). Points layout s.ty.stars o at offset) l.shape_is p, c)) f)
 
@@ -244,15 +244,15 @@ module _ (layout : Arrangement) (exposed : List ℕ) (scope : Scope) where
         address_made o n s vs at has (w o (0, omega arith, refl)) f
     takes_fits own_pointer w [] f = absurd f
     takes_fits (own_pointer {cell = cell}) w (v ∷ []) f =
-        pure_made (named true cell) glob (v ∷ []) (own_given layout exposed true cell node v ground.node_within f.0)
+        pure_made (named true cell) glob (v ∷ []) (own_given layout exposed true cell node v footing.node_within f.0)
     takes_fits own_pointer w (v ∷ u ∷ vs) f = absurd f.1
     takes_fits own_cell w [] f = absurd f
     takes_fits (own_cell {cell = cell}) w (v ∷ []) f =
-        pure_made (named true cell) glob (v ∷ []) (own_named_given layout exposed true false cell node v ground.node_within f.0)
+        pure_made (named true cell) glob (v ∷ []) (own_named_given layout exposed true false cell node v footing.node_within f.0)
     takes_fits own_cell w (v ∷ u ∷ vs) f = absurd f.1
     takes_fits convert w [] f = absurd f
     takes_fits (convert {cell = cell}) w (v ∷ []) f =
-        pure_made (to cell) glob (v ∷ []) (convert_given layout exposed cell node v ground.node_within f.0)
+        pure_made (to cell) glob (v ∷ []) (convert_given layout exposed cell node v footing.node_within f.0)
     takes_fits convert w (v ∷ u ∷ vs) f = absurd f.1
     takes_fits (computes h) w vs f = computes_fits h vs f
     takes_fits unary w [] f = absurd f
@@ -275,11 +275,11 @@ module _ (layout : Arrangement) (exposed : List ℕ) (scope : Scope) where
     takes_fits to_global w (n ∷ v ∷ u ∷ vs) f = absurd f.1.1
     takes_fits to_proc w [] f = absurd f
     takes_fits (to_proc {cell = cell}) w (v ∷ []) f =
-        pure_made number to_proc_step (v ∷ []) (to_proc_given layout exposed cell v ground.few f.0)
+        pure_made number to_proc_step (v ∷ []) (to_proc_given layout exposed cell v footing.few f.0)
     takes_fits to_proc w (v ∷ u ∷ vs) f = absurd f.1
     takes_fits to_local w [] f = absurd f
     takes_fits (to_local {cell = cell}) w (v ∷ []) f =
-        pure_made (to cell) to_local_step (v ∷ []) (convert_given layout exposed cell 0 v ground.laid.some_node f.0)
+        pure_made (to cell) to_local_step (v ∷ []) (convert_given layout exposed cell 0 v footing.laid.some_node f.0)
     takes_fits to_local w (v ∷ u ∷ vs) f = absurd f.1
     takes_fits (set h) w [] f = absurd f
     takes_fits (set h) w (v ∷ []) f = (h.0, f.0)

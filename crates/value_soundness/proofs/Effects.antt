@@ -1,31 +1,26 @@
 -- What cells hold after lawful effects is lawful, and so is what the parts of lawful requests read and write.
-use Rattle.std.proofs.Common.{◌≡◌, ◌≢◌, ℕ, zero, suc, ◌+◌, ◌<◌, ◌≤◌, ℤ, pos, Option, Some, None, Bool, true, false, ◌==◌, ◌&&◌, if◌then◌else◌, List, [], ◌∷◌, length, slice_get, IsSomeAnd, refl, sym, ap, ◌∙◌, subst, arith}
+use Rattle.std.proofs.Common.{◌≡◌, ℕ, zero, suc, ◌+◌, ◌<◌, Option, Some, None, Bool, true, false, ◌==◌, ◌&&◌, if◌then◌else◌, List, [], ◌∷◌, length, slice_get, IsSomeAnd, refl, sym, ap, ◌∙◌, subst, arith}
 use Rattle.std.specs.Prelude.{nat_lt, IsSome}
 use Rattle.std.specs.List.{All}
-use Rattle.std.proofs.lemmas.Bool.{ltb-true, eqb-true}
+use Rattle.std.proofs.lemmas.Bool.{and_parts, ltb-true, eqb-true}
 use Rattle.std.proofs.lemmas.List.Elements.{All-head, All-tail}
 use Rattle.sc_base.specs.declared.shape.Star.{Star}
 use Rattle.sc_base.specs.declared.shape.Ty.{Ty}
 use Rattle.sc_base.specs.declared.value.Place.{Place}
 use Rattle.sc_base.specs.declared.value.Value.{Value}
-use Rattle.sc_base.specs.declared.value.Value.TheVariants.{Int, Null}
 use Rattle.sc_layout.specs.Layout.{Arrangement, LaidObject}
-use Rattle.sc_layout.specs.Place.{IsPlace, FitsType, Fits, extent_of}
+use Rattle.sc_layout.specs.Place.{IsPlace, FitsType}
 use Rattle.sc_layout.specs.Start.{start, zero_in, zero_of}
-use Rattle.sc_isa.specs.Sound.{IsPlacedCopy, further as further_cell}
+use Rattle.sc_isa.specs.Sound.{IsPlacedCopy}
 use Rattle.effect_order.specs.Effect.{Effect, held, same_place}
-use Rattle.effect_order.specs.Transfer.{Transfer, further, part_place, part_value, written, is_part, same_flag}
+use Rattle.effect_order.specs.Transfer.{further, part_place, part_value, written, is_part, same_flag}
 use Rattle.effect_order.proofs.Equal.{place_is}
 use Rattle.sc_meaning.specs.declared.request.Request.{Request}
 use Rattle.sc_meaning.specs.declared.request.Request.TheVariants.{Read, Write, Get, Put, Store, Copy, Sync, Barrier, AllStoreSync}
 use Rattle.sc_meaning.specs.Parts.{transfer_of, is_issued}
 use Rattle.sc_meaning.specs.Past.{or_zero}
-use Rattle.value_soundness.specs.Lawful.{NamesOnly, IsLawful, IsLawfulRequest, IsLawfulEffect}
+use Rattle.value_soundness.specs.Lawful.{NamesOnly, IsLawfulAt, IsLawfulRequest, IsLawfulEffect}
 use Rattle.value_soundness.proofs.Values.{some_inv, some_intro}
-
-both : (a b : Bool) → (a && b) ≡ true → (a ≡ true) × (b ≡ true)
-both true b h = (refl, h)
-both false b h = absurd (cc)
 
 module _ (layout : Arrangement) (exposed : List ℕ) where
   -- ---- cells
@@ -35,7 +30,7 @@ module _ (layout : Arrangement) (exposed : List ℕ) where
   zero_fits ty (s ∷ ss) e = (λ none. absurd (let no : [] ≡ s ∷ ss = sym none ∙ e in cc), tt)
 
   zero_lawful : (place : Place) (o : Option LaidObject) → slice_get layout.objects place.object ≡ o → IsSome o
-      → IsLawful layout exposed place (zero_in o)
+      → IsLawfulAt layout exposed place (zero_in o)
   zero_lawful place None e h = absurd (cc)
   zero_lawful place (Some laid) e h =
       let z = zero_fits laid.shape.ty laid.shape.ty.stars refl in
@@ -46,20 +41,20 @@ module _ (layout : Arrangement) (exposed : List ℕ) where
   there (o ∷ more) zero h = refl
   there (o ∷ more) (suc n) h = there more n (omega (arith, h))
 
-  pub start_lawful : (place : Place) → IsPlace layout place → IsLawful layout exposed place (start layout place)
+  pub start_lawful : (place : Place) → IsPlace layout place → IsLawfulAt layout exposed place (start layout place)
   start_lawful place p = zero_lawful place (slice_get layout.objects place.object) refl (there layout.objects place.object p.object)
 
   shown_by : (place : Place) (e : Effect) (b : Bool) (rest : Value) → (e.wrote && same_place e.place place) ≡ b
-      → IsLawfulEffect layout exposed e → IsLawful layout exposed place rest
-      → IsLawful layout exposed place (if b then e.value else rest)
+      → IsLawfulEffect layout exposed e → IsLawfulAt layout exposed place rest
+      → IsLawfulAt layout exposed place (if b then e.value else rest)
   shown_by place e true rest is h k =
-      let same : e.place ≡ place = place_is e.place place (both e.wrote (same_place e.place place) is).1 in
-      subst (λ (p : Place). IsLawful layout exposed p e.value) same h.lawful
+      let same : e.place ≡ place = place_is e.place place (and_parts e.wrote (same_place e.place place) is).1 in
+      subst (λ (p : Place). IsLawfulAt layout exposed p e.value) same h.lawful
   shown_by place e false rest is h k = k
 
   -- what a cell holds
   pub held_lawful : (effs : List Effect) (place : Place) → All (IsLawfulEffect layout exposed) effs → IsPlace layout place
-      → IsLawful layout exposed place (held (start layout) place effs)
+      → IsLawfulAt layout exposed place (held (start layout) place effs)
   held_lawful [] place h p = start_lawful place p
   held_lawful (e ∷ effs) place h p =
       shown_by place e (e.wrote && same_place e.place place) (held (start layout) place effs) refl
@@ -77,7 +72,7 @@ module _ (layout : Arrangement) (exposed : List ℕ) where
   pub record IsLawfulPart (request : Request) (cell : ℕ) (wrote : Bool) (value : Value) : Type 0 where
     pub place : Place
     pub is_part : part_place (transfer_of request) cell wrote ≡ Some place
-    pub lawful : IsLawful layout exposed place value
+    pub lawful : IsLawfulAt layout exposed place value
 
   record IsPartOf (e : Effect) (node number cell : ℕ) (wrote : Bool) : Type 0 where
     pub node_is : e.node ≡ node
@@ -93,9 +88,9 @@ module _ (layout : Arrangement) (exposed : List ℕ) where
   part_is : (e : Effect) (node number cell : ℕ) (wrote : Bool) → is_part node number cell wrote e ≡ true
       → IsPartOf e node number cell wrote
   part_is e node number cell wrote h =
-      let a = both ((e.node == node) && (e.number == number) && (e.cell == cell)) (same_flag e.wrote wrote) h in
-      let b = both ((e.node == node) && (e.number == number)) (e.cell == cell) a.0 in
-      let c = both (e.node == node) (e.number == number) b.0 in
+      let a = and_parts ((e.node == node) && (e.number == number) && (e.cell == cell)) (same_flag e.wrote wrote) h in
+      let b = and_parts ((e.node == node) && (e.number == number)) (e.cell == cell) a.0 in
+      let c = and_parts (e.node == node) (e.number == number) b.0 in
       record {
         node_is = eqb-true e.node node c.0;
         number_is = eqb-true e.number number c.1;
@@ -158,7 +153,7 @@ module _ (layout : Arrangement) (exposed : List ℕ) where
   first_cell first zero h = λ i. record { object = first.object; node = first.node; offset = (let e : first.offset + 0 ≡ first.offset = omega arith in e) i }
   first_cell first (suc n) h = absurd (let no : ⊥ = omega (arith, h) in no)
 
-  same_object : (p q : Place) (v : Value) → p.object ≡ q.object → IsLawful layout exposed p v → IsLawful layout exposed q v
+  same_object : (p q : Place) (v : Value) → p.object ≡ q.object → IsLawfulAt layout exposed p v → IsLawfulAt layout exposed q v
   same_object p q v e h = record {
     fits = subst (λ object. IsSomeAnd (slice_get layout.objects object) (λ o. FitsType layout o.shape.ty v)) e h.fits;
     names = h.names;
@@ -193,18 +188,18 @@ module _ (layout : Arrangement) (exposed : List ℕ) where
 
   -- ---- what parts write
 
-  filled : (first place : Place) (cell : ℕ) (given value : Value) → IsLawful layout exposed first given
+  filled : (first place : Place) (cell : ℕ) (given value : Value) → IsLawfulAt layout exposed first given
       → (if nat_lt cell 1 then Some (further cell first) else None) ≡ Some place → Some given ≡ Some value
-      → IsLawful layout exposed place value
+      → IsLawfulAt layout exposed place value
   filled first place cell given value h e w =
       let c = cell_of 1 cell first place (nat_lt cell 1) refl e in
       let same : given ≡ value = cc in
-      subst (λ (v : Value). IsLawful layout exposed place v) same
-      (subst (λ (p : Place). IsLawful layout exposed p given) (sym (first_cell first cell c.below) ∙ c.is) h)
+      subst (λ (v : Value). IsLawfulAt layout exposed place v) same
+      (subst (λ (p : Place). IsLawfulAt layout exposed p given) (sym (first_cell first cell c.below) ∙ c.is) h)
 
   -- cells of one type hold the same values
   of_one_type : (from to : Place) (cells : ℕ) (p q : Place) (value : Value) → IsPlacedCopy layout from to cells → p.object ≡ from.object
-      → q.object ≡ to.object → IsLawful layout exposed p value → IsLawful layout exposed q value
+      → q.object ≡ to.object → IsLawfulAt layout exposed p value → IsLawfulAt layout exposed q value
   of_one_type from to cells p q value h ep eq l = record {
     fits = some_intro (λ o. FitsType layout o.shape.ty value) _ h.target (ap (λ object. slice_get layout.objects object) eq ∙ h.target_is)
         (subst (λ (ty : Ty). FitsType layout ty value) h.one_type
@@ -217,7 +212,7 @@ module _ (layout : Arrangement) (exposed : List ℕ) where
       → All (IsLawfulEffect layout exposed) effs → slice_get done number ≡ Some (Copy from to cells mode line)
       → is_issued (Copy from to cells mode line) ≡ true
       → (if nat_lt cell cells then Some (further cell to) else None) ≡ Some place
-      → part_value node number cell false effs ≡ Some value → IsLawful layout exposed place value
+      → part_value node number cell false effs ≡ Some value → IsLawfulAt layout exposed place value
   moved from to cells mode line node done effs number cell place value h of lawful at issued e w =
       let c = cell_of cells cell to place (nat_lt cell cells) refl e in
       let part = part_lawful node done effs number cell false (Copy from to cells mode line) value of lawful at issued w in
@@ -228,7 +223,7 @@ module _ (layout : Arrangement) (exposed : List ℕ) where
   pub written_lawful : (node : ℕ) (done : List Request) (effs : List Effect) (number cell : ℕ) (request : Request) (place : Place) (value : Value)
       → IsLawfulRequest layout exposed request → All (IsOfRequest node done) effs → All (IsLawfulEffect layout exposed) effs
       → slice_get done number ≡ Some request → is_issued request ≡ true → part_place (transfer_of request) cell true ≡ Some place
-      → written (transfer_of request) node number cell effs ≡ Some value → IsLawful layout exposed place value
+      → written (transfer_of request) node number cell effs ≡ Some value → IsLawfulAt layout exposed place value
   written_lawful node done effs number cell (Get first line) place value h of lawful at issued e w =
       absurd (no_cell (nat_lt cell 1) place e)
   written_lawful node done effs number cell (Put first given line) place value h of lawful at issued e w =
@@ -252,9 +247,9 @@ module _ (layout : Arrangement) (exposed : List ℕ) where
   pub get_lawful : (node : ℕ) (done : List Request) (effs : List Effect) (number line : ℕ) (place : Place) (value : Value)
       → All (IsOfRequest node done) effs → All (IsLawfulEffect layout exposed) effs → slice_get done number ≡ Some (Get place line)
       → part_value node number 0 false effs ≡ Some value
-      → IsLawful layout exposed place (or_zero (part_value node number 0 false effs))
+      → IsLawfulAt layout exposed place (or_zero (part_value node number 0 false effs))
   get_lawful node done effs number line place value of lawful at e =
       let part = part_lawful node done effs number 0 false (Get place line) value of lawful at refl e in
       let c = cell_of 1 0 place part.place (nat_lt 0 1) refl part.is_part in
-      subst (λ (v : Value). IsLawful layout exposed place v) (sym (or_zero_of (part_value node number 0 false effs) value e))
+      subst (λ (v : Value). IsLawfulAt layout exposed place v) (sym (or_zero_of (part_value node number 0 false effs) value e))
       (same_object part.place place value (ap (λ (p : Place). p.object) (sym c.is)) part.lawful)

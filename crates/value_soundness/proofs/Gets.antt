@@ -1,12 +1,11 @@
 -- The gets of a past: those that were issued since the last sync are the ones whose values it lands, in order.
-use Rattle.std.proofs.Common.{◌≡◌, ◌≢◌, ℕ, zero, suc, ◌+◌, ◌<◌, ◌≤◌, Option, Some, None, Bool, true, false, ◌==◌, ◌&&◌, if◌then◌else◌, List, [], ◌∷◌, ◌++◌, map, length, slice_get, filter, refl, sym, ap, ◌∙◌, subst, arith}
-use Rattle.std.specs.Option.{option_map_or}
+use Rattle.std.proofs.Common.{◌≡◌, ℕ, zero, suc, ◌<◌, ◌≤◌, Some, Bool, true, false, if◌then◌else◌, List, [], ◌∷◌, ◌++◌, length, slice_get, refl, sym, ap, ◌∙◌, subst, arith}
 use Rattle.std.specs.List.{All}
 use Rattle.std.proofs.lemmas.List.Elements.{All-nil, All-cons}
 use Rattle.sc_base.specs.declared.value.Place.{Place}
 use Rattle.sc_base.specs.declared.value.Value.{Value}
 use Rattle.sc_layout.specs.Layout.{Arrangement}
-use Rattle.sc_isa.specs.Fitting.{fits, fits_all}
+use Rattle.sc_isa.specs.Fitting.{fits_all}
 use Rattle.sc_isa.proofs.Exact.{exact}
 use Rattle.effect_order.specs.Effect.{Effect}
 use Rattle.effect_order.specs.Transfer.{part_value}
@@ -14,7 +13,7 @@ use Rattle.sc_meaning.specs.declared.request.Request.{Request}
 use Rattle.sc_meaning.specs.declared.request.Request.TheVariants.{Read, Write, Get, Put, Store, Copy, Sync, Barrier, AllStoreSync}
 use Rattle.sc_meaning.specs.Parts.{is_get, is_issued}
 use Rattle.sc_meaning.specs.Past.{or_zero, got, gets_among}
-use Rattle.value_soundness.specs.Lawful.{NamesOnly, IsLawful}
+use Rattle.value_soundness.specs.Lawful.{NamesOnly, IsLawfulAt}
 use Rattle.value_soundness.proofs.Memories.{AreLawful}
 use Rattle.value_soundness.proofs.Promises.{then_gets}
 
@@ -132,7 +131,7 @@ module _ (layout : Arrangement) (exposed : List ℕ) where
   -- what the gets got is lawful at their places, where it is so of each
   pub got_lawful : (node : ℕ) (effs : List Effect) (done later : List Request) {ns : List ℕ} {ps : List Place} → GetsAre done ns ps
       → ((n line : ℕ) (place : Place) → slice_get done n ≡ Some (Get place line)
-      → IsLawful layout exposed place (or_zero (part_value node n 0 false effs)))
+      → IsLawfulAt layout exposed place (or_zero (part_value node n 0 false effs)))
       → AreLawful layout exposed ps (got node effs (gets_among (done ++ later) ns))
   got_lawful node effs done later no_more f = tt
   got_lawful node effs done later (a_get {n = n} {line = line} {place = place} {ns = ns} {ps = ps} e h) f =

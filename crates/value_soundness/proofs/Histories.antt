@@ -1,40 +1,39 @@
 -- Legal pasts of typed sources are lawful, by induction over the past: what cells hold is lawful since each written value was,
 -- so each answer is, and so each request of the node that was answered.
-use Rattle.std.proofs.Common.{◌≡◌, ◌≢◌, ℕ, zero, suc, ◌+◌, ◌^◌, ◌<◌, ◌≤◌, ◌⊎◌, inl, inr, Option, Some, None, Bool, true, false, ◌==◌, if◌then◌else◌, List, [], ◌∷◌, ◌++◌, map, length, slice_get, eq-eqb, refl, sym, ap, ◌∙◌, subst, arith}
+use Rattle.std.proofs.Common.{◌≡◌, ◌≢◌, ℕ, ◌+◌, ◌<◌, ◌≤◌, inl, inr, Option, Some, None, Bool, true, false, if◌then◌else◌, List, [], ◌∷◌, ◌++◌, length, slice_get, eq-eqb, refl, sym, subst, arith}
 use Rattle.std.specs.Prelude.{nat_lt, IsSome}
 use Rattle.std.specs.List.{All}
 use Rattle.std.proofs.lemmas.Bool.{cases_eq, ne_eqb, ltb-true, lt-ltb}
 use Rattle.std.proofs.lemmas.List.Elements.{All-nil, All-cons}
 use Rattle.std.proofs.lemmas.Option.{slice_get_within, get_or_from_slice_get}
-use Rattle.resumption.specs.Resumption.{run_of, follow}
+use Rattle.resumption.specs.Resumption.{run_of}
 use Rattle.sc_base.specs.declared.value.End.{End}
 use Rattle.sc_base.specs.declared.value.End.TheVariants.{Ended, Fault, Cut, Waiting}
 use Rattle.sc_base.specs.declared.value.Place.{Place}
 use Rattle.sc_base.specs.declared.value.Value.{Value}
 use Rattle.sc_layout.specs.Layout.{Arrangement}
 use Rattle.sc_layout.specs.Place.{IsPlace}
-use Rattle.sc_isa.specs.Fitting.{fits, fits_all}
 use Rattle.sc_isa.proofs.Exact.{exact}
 use Rattle.effect_order.specs.Effect.{Effect}
-use Rattle.effect_order.specs.Transfer.{part_place, part_value, AllOccurred}
+use Rattle.effect_order.specs.Transfer.{part_value}
 use Rattle.sc_core.specs.Core.{Program}
 use Rattle.sc_core.specs.Forms.{exposes_of}
 use Rattle.sc_meaning.specs.declared.request.Request.{Request}
-use Rattle.sc_meaning.specs.declared.request.Request.TheVariants.{Read, Write, Get, Put, Store, Copy, Sync as SyncRequest, Barrier, AllStoreSync}
+use Rattle.sc_meaning.specs.declared.request.Request.TheVariants.{Read, Write, Get, Sync as SyncRequest}
 use Rattle.sc_meaning.specs.declared.event.SourceEvent.{SourceEvent}
 use Rattle.sc_meaning.specs.declared.event.SourceEvent.TheVariants.{Do, Issue, Effect as Part, Sync, Arrive, Release, End as Over}
-use Rattle.sc_meaning.specs.Asking.{Answer, Shown, Landed, Passed, Broken}
-use Rattle.sc_meaning.specs.Parts.{transfer_of, is_split, is_issued}
+use Rattle.sc_meaning.specs.Asking.{Shown, Landed, Passed, Broken}
+use Rattle.sc_meaning.specs.Parts.{is_split}
 use Rattle.sc_meaning.specs.Past.{Processes, or_zero, effects, releases, arrivals, made, ended, issued_since, got, gets_among, answers, run_so_far, request_at}
-use Rattle.sc_meaning.specs.History.{AllDone, IsNext, ReadAllowed, WriteAllowed, IssueAllowed, EffectAllowed, SyncAllowed, ArriveAllowed, ReleaseAllowed, EndAllowed, WaitingAllowed, barrier_of, Allowed, Legal}
+use Rattle.sc_meaning.specs.History.{AllDone, IsNext, ReadAllowed, WriteAllowed, IssueAllowed, EffectAllowed, SyncAllowed, ArriveAllowed, ReleaseAllowed, WaitingAllowed, barrier_of, Allowed, Legal}
 use Rattle.sc_meaning.specs.Source.{processes_of}
-use Rattle.value_soundness.specs.Lawful.{NamesOnly, IsLawful, IsLawfulRequest, IsLawfulEffect, RunsLawfully}
-use Rattle.value_soundness.specs.Laws.{IsLaidSource, ShowsLawfully, IsLawfulPast}
+use Rattle.value_soundness.specs.Lawful.{IsLawfulAt, IsLawfulRequest, IsLawfulEffect, RunsLawfully}
+use Rattle.value_soundness.specs.Laws.{IsLaidSource, IsLawfulPast}
 use Rattle.value_soundness.proofs.Memories.{AreLawful}
 use Rattle.value_soundness.proofs.Sources.{promises, runs}
 use Rattle.value_soundness.proofs.Answered.{at_once, leads_fit, gets_after}
-use Rattle.value_soundness.proofs.Gets.{get_front, get_back, GetsAre, no_more, lawful_fit, lawful_names, got_lawful}
-use Rattle.value_soundness.proofs.Effects.{IsOfRequest, held_lawful, part_placed, written_lawful, get_lawful}
+use Rattle.value_soundness.proofs.Gets.{get_front, get_back, no_more, lawful_fit, lawful_names, got_lawful}
+use Rattle.value_soundness.proofs.Effects.{held_lawful, part_placed, written_lawful, get_lawful}
 use Rattle.value_soundness.proofs.Standings.{View, Stands, is_barrier, stands_other, stands_effect, stands_write, stands_issue, stands_read, stands_sync, stands_arrive, stands_release, stands_waiting, stands_end}
 
 -- what the past says of the node
@@ -188,8 +187,8 @@ module _ (layout : Arrangement) (program : Program) (budget : ℕ) (source : IsL
       let below = h.is_next.goes_on.node_within in
       let s = kept.nodes o below in
       let placed : IsPlace layout place = request_lawful past o number (Read place h.line) below s h.is_next.next in
-      let lawful : IsLawful layout exposed place value =
-      subst (λ (v : Value). IsLawful layout exposed place v) (sym h.shows) (held_lawful layout exposed (effects past) place kept.cells placed) in
+      let lawful : IsLawfulAt layout exposed place value =
+      subst (λ (v : Value). IsLawfulAt layout exposed place v) (sym h.shows) (held_lawful layout exposed (effects past) place kept.cells placed) in
       let e : Effect = record { node = o; number = number; cell = 0; wrote = false; place = place; value = value } in
       record {
         cells = All-cons (IsLawfulEffect layout exposed) e (effects past) (record { placed = placed; lawful = lawful }) kept.cells;
@@ -257,9 +256,9 @@ module _ (layout : Arrangement) (program : Program) (budget : ℕ) (source : IsL
   effect_lawful : (past : List SourceEvent) (o number cell : ℕ) (wrote : Bool) (place : Place) (value : Value)
       (h : EffectAllowed processes past o number cell wrote place value) → IsKept past → (s : StandsAfter o past)
       → slice_get s.done number ≡ Some h.request → IsLawfulRequest layout exposed h.request → IsPlace layout place
-      → IsLawful layout exposed place value
+      → IsLawfulAt layout exposed place value
   effect_lawful past o number cell false place value h kept s at lawful placed =
-      subst (λ (v : Value). IsLawful layout exposed place v) (sym (h.reads refl))
+      subst (λ (v : Value). IsLawfulAt layout exposed place v) (sym (h.reads refl))
       (held_lawful layout exposed (effects past) place kept.cells placed)
   effect_lawful past o number cell true place value h kept s at lawful placed =
       written_lawful layout exposed o s.done (effects past) number cell h.request place value lawful s.parts kept.cells at
@@ -293,7 +292,7 @@ module _ (layout : Arrangement) (program : Program) (budget : ℕ) (source : IsL
 
   got_there : (past : List SourceEvent) (node : ℕ) (s : StandsAfter node past) → AllDone processes is_split node past
       → All (IsLawfulEffect layout exposed) (effects past) → (n line : ℕ) (place : Place) → slice_get s.done n ≡ Some (Get place line)
-      → IsLawful layout exposed place (or_zero (part_value node n 0 false (effects past)))
+      → IsLawfulAt layout exposed place (or_zero (part_value node n 0 false (effects past)))
   got_there past node s done cells n line place at =
       let many = s.made_is in
       let few : n < length s.done = slice_get_within s.done n (Get place line) at in

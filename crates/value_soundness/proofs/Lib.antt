@@ -15,3 +15,4 @@ pub mod Gets
 pub mod Effects
 pub mod Standings
 pub mod Histories
+pub mod Examples

@@ -13,7 +13,7 @@ use Rattle.sc_base.specs.declared.value.Value.TheVariants.{Int}
 use Rattle.sc_layout.specs.Layout.{Arrangement}
 use Rattle.sc_core.specs.Kinds.{Kind, kind_of}
 use Rattle.sc_meaning.specs.Memory.{Slot, has, awaits, Spot, Memory, blank, entered, top, below, slot, with_top, with_slot, pushed, popped, with_get, places, landed_at, landed_all, synced}
-use Rattle.value_soundness.specs.Lawful.{IsLawful}
+use Rattle.value_soundness.specs.Lawful.{IsLawfulAt}
 use Rattle.value_soundness.proofs.Values.{IsOf, AreOf, IsCell, of_cell}
 
 -- what the locals of a function are, and which of them have begun
@@ -222,7 +222,7 @@ module _ (layout : Arrangement) (exposed : List ℕ) where
   landed_there s v f fs l = rw (ne_eqb s.level (length fs) (λ e. let no : ⊥ = omega (arith, e, l) in no)) refl
 
   frames_landed : (ts : List Typing) (fs : List (List Slot)) (s : Spot) (v : Value) → FramesFit ts fs → IsTypedSpot s ts
-      → IsLawful layout exposed s.place v → FramesFit ts (landed_at s v fs)
+      → IsLawfulAt layout exposed s.place v → FramesFit ts (landed_at s v fs)
   frames_landed [] [] s v h i l = h
   frames_landed [] (f ∷ fs) s v h i l = absurd h
   frames_landed (t ∷ ts) [] s v h i l = absurd h
@@ -240,7 +240,7 @@ module _ (layout : Arrangement) (exposed : List ℕ) where
   -- each value is lawful at its place
   abbrev pub AreLawful : List Place → List Value → Type 0
   AreLawful [] [] = Unit {0}
-  AreLawful (p ∷ ps) (v ∷ vs) = IsLawful layout exposed p v × AreLawful ps vs
+  AreLawful (p ∷ ps) (v ∷ vs) = IsLawfulAt layout exposed p v × AreLawful ps vs
   AreLawful _ _ = ⊥
 
   all_landed : (ts : List Typing) (ss : List Spot) (vs : List Value) (fs : List (List Slot)) → FramesFit ts fs

@@ -1,8 +1,8 @@
 -- What the operators give of numbers of 64 bits has 64 bits.
-use Rattle.std.proofs.Common.{◌≡◌, ℕ, zero, suc, ◌+◌, ◌^◌, ℤ, pos, negsuc, ◌+ℤ◌, ◌-ℤ◌, ◌*ℤ◌, neg_ℤ, Result, Ok, Err, Bool, true, false, ◌&&◌, if◌then◌else◌, nat_lt, refl, ap, ◌∙◌, arith}
+use Rattle.std.proofs.Common.{◌≡◌, ℕ, zero, suc, ◌+◌, ◌^◌, ℤ, pos, negsuc, ◌+ℤ◌, ◌-ℤ◌, ◌*ℤ◌, neg_ℤ, Result, Ok, Err, Bool, true, false, if◌then◌else◌, nat_lt, refl, ap, ◌∙◌, arith}
 use Rattle.std.specs.Prelude.{FitsSigned, int_lt, int_le, int_div, int_rem}
 use Rattle.std.specs.Int.{w64, cast_signed}
-use Rattle.std.proofs.lemmas.Bool.{ltb-true, ltb-false, leb-true}
+use Rattle.std.proofs.lemmas.Bool.{and_parts, ltb-true, ltb-false, leb-true}
 use Rattle.std.proofs.Math.IntN.{+ℤ-neg_ℤ_cancel}
 use Rattle.sc_base.specs.Arithmetic.{within_int, divided, shifted, floor_div, truth, binary_of, unary_of}
 use Rattle.sc_base.specs.declared.operator.Binary.{Binary}
@@ -16,10 +16,6 @@ abbrev pub OkFits : Result ℤ FaultKind → Type 0
 OkFits (Ok n) = FitsSigned w64 n
 OkFits (Err kind) = Unit {0}
 
-both : (a b : Bool) → (a && b) ≡ true → (a ≡ true) × (b ≡ true)
-both true b h = (refl, h)
-both false b h = absurd (cc)
-
 in_range : (z : ℤ) → int_le (neg_ℤ (pos (2 ^ 63))) z ≡ true → int_lt z (pos (2 ^ 63)) ≡ true → FitsSigned w64 z
 in_range (pos n) h k = record { sfits = ltb-true n (2 ^ 63) k }
 in_range (negsuc n) h k = record { sfits = omega (arith, leb-true n 9223372036854775807 h) }
@@ -29,7 +25,7 @@ within_if z true e h = h refl
 within_if z false e h = tt
 
 within : (z : ℤ) → OkFits (within_int z)
-within z = within_if z _ _ (λ h. let p = both (int_le (neg_ℤ (pos (2 ^ 63))) z) (int_lt z (pos (2 ^ 63))) h in in_range z p.0 p.1)
+within z = within_if z _ _ (λ h. let p = and_parts (int_le (neg_ℤ (pos (2 ^ 63))) z) (int_lt z (pos (2 ^ 63))) h in in_range z p.0 p.1)
 
 divided_fits : (f : ℤ → ℤ → ℤ) (a b : ℤ) → OkFits (divided f a b)
 divided_fits f a (pos zero) = tt

@@ -1,10 +1,10 @@
 -- What is computed from values of their kinds is of its kind, or a fault.
-use Rattle.std.proofs.Common.{◌≡◌, ℕ, zero, suc, ◌+◌, ◌*◌, ◌/◌, ◌%◌, ◌^◌, ◌<◌, ◌≤◌, ℤ, pos, negsuc, ◌+ℤ◌, Result, Ok, Err, Option, Some, None, Bool, true, false, ◌&&◌, List, [], ◌∷◌, length, slice_get, refl, ap, ◌∙◌, arith}
+use Rattle.std.proofs.Common.{◌≡◌, ℕ, zero, suc, ◌+◌, ◌*◌, ◌/◌, ◌%◌, ◌^◌, ◌<◌, ◌≤◌, ℤ, pos, negsuc, ◌+ℤ◌, Result, Ok, Err, Option, Some, None, Bool, true, false, List, [], ◌∷◌, length, slice_get, refl, ap, ◌∙◌, arith}
 use Rattle.std.specs.Prelude.{nat_lt, nat_le, if◌then◌else◌, FitsSigned}
 use Rattle.std.specs.Int.{w64}
 use Rattle.std.specs.Option.{option_map}
 use Rattle.std.specs.List.{Contains}
-use Rattle.std.proofs.lemmas.Bool.{ltb-true, leb-true, lt-ltb}
+use Rattle.std.proofs.lemmas.Bool.{and_from, ltb-true, leb-true, lt-ltb}
 use Rattle.std.proofs.lemmas.Nat.{mod_below}
 use Rattle.std.proofs.lemmas.Option.{slice_get_within}
 use Rattle.sc_base.specs.Arithmetic.{binary_of, unary_of}
@@ -132,14 +132,10 @@ module _ (layout : Arrangement) (exposed : List ℕ) where
       → Given layout exposed kind (of_pointer layout v o)
   of_pointer_given kind v o e h = rw e h
 
-  both_true : (a b : Bool) → a ≡ true → b ≡ true → (a && b) ≡ true
-  both_true true b h k = k
-  both_true false b h k = absurd (cc)
-
   pub points_is_pointer : (cell : List Star) (object node offset : ℕ) → Points layout cell object node offset
       → is_pointer layout (Ptr object node offset) ≡ true
   points_is_pointer cell object node offset p =
-      both_true (nat_lt object (length layout.objects)) (nat_lt node layout.nodes)
+      and_from (nat_lt object (length layout.objects)) (nat_lt node layout.nodes)
       (lt-ltb object (length layout.objects) (slice_get_within layout.objects object p.laid p.laid_is))
       (lt-ltb node layout.nodes p.node_within)
 

@@ -1,6 +1,7 @@
 -- What a source promises of all that it does from a moment on, under lawful answers.
-use Rattle.std.proofs.Common.{◌≡◌, ℕ, Bool, true, false, ◌&&◌, List, [], ◌∷◌, ◌++◌, refl}
+use Rattle.std.proofs.Common.{◌≡◌, ℕ, Bool, true, false, List, [], ◌∷◌, ◌++◌}
 use Rattle.std.specs.List.{All}
+use Rattle.std.proofs.lemmas.Bool.{and_parts}
 use Rattle.std.proofs.lemmas.List.Elements.{All-head, All-tail}
 use Rattle.resumption.specs.Resumption.{Asks, Makes, Says, Stops}
 use Rattle.sc_base.specs.declared.value.Place.{Place}
@@ -11,7 +12,7 @@ use Rattle.sc_isa.proofs.Exact.{exact}
 use Rattle.sc_meaning.specs.declared.request.Request.{Request}
 use Rattle.sc_meaning.specs.declared.request.Request.TheVariants.{Read, Get, Sync, Barrier, AllStoreSync}
 use Rattle.sc_meaning.specs.Asking.{Requested, Came, Answer, Finishes, Breaks, PointedDoing, SourceDoing, fits_read, fits_sync, fits_barrier, without_points}
-use Rattle.value_soundness.specs.Lawful.{NamesOnly, IsLawful, IsLawfulRequest, AnswerNamesOnly}
+use Rattle.value_soundness.specs.Lawful.{NamesOnly, IsLawfulAt, IsLawfulRequest, AnswerNamesOnly}
 use Rattle.value_soundness.proofs.Memories.{AreLawful}
 
 -- the places of the gets whose values the next sync lands, after the request
@@ -82,12 +83,8 @@ module _ (layout : Arrangement) (exposed : List ℕ) where
 
   -- ---- lawful answers
 
-  pub lawful_read : (place : Place) (v : Value) → fits layout place v ≡ true → NamesOnly exposed v → IsLawful layout exposed place v
+  pub lawful_read : (place : Place) (v : Value) → fits layout place v ≡ true → NamesOnly exposed v → IsLawfulAt layout exposed place v
   lawful_read place v fit names = record { fits = (exact layout place v).0 fit; names = names }
-
-  both : (a b : Bool) → (a && b) ≡ true → (a ≡ true) × (b ≡ true)
-  both true b h = (refl, h)
-  both false b h = absurd (cc)
 
   pub lawful_all : (places : List Place) (vs : List Value) → fits_all layout places vs ≡ true → All (NamesOnly exposed) vs
       → AreLawful layout exposed places vs
@@ -95,7 +92,7 @@ module _ (layout : Arrangement) (exposed : List ℕ) where
   lawful_all [] (v ∷ vs) fit names = absurd (cc)
   lawful_all (p ∷ ps) [] fit names = absurd (cc)
   lawful_all (p ∷ ps) (v ∷ vs) fit names =
-      let h = both (fits layout p v) (fits_all layout ps vs) fit in (
+      let h = and_parts (fits layout p v) (fits_all layout ps vs) fit in (
         lawful_read p v h.0 (All-head (NamesOnly exposed) v vs names),
         lawful_all ps vs h.1 (All-tail (NamesOnly exposed) v vs names),
       )

@@ -31,7 +31,7 @@ use Rattle.sc_meaning.specs.Meaning.{Setting, constant_of, in_body, body_of, ent
 use Rattle.value_soundness.specs.Lawful.{IsLawfulRequest, RunsLawfully, AnswerNamesOnly}
 use Rattle.value_soundness.specs.Laws.{IsLaidSource}
 use Rattle.value_soundness.proofs.Values.{IsOf, AreOf}
-use Rattle.value_soundness.proofs.Deeds.{Ground, Within}
+use Rattle.value_soundness.proofs.Deeds.{Footing, Within}
 use Rattle.value_soundness.proofs.Memories.{Typing, FrameFits, entered_fits, good_push, good_pop, good_restrict}
 use Rattle.value_soundness.proofs.Promises.{PromisesPointed, Promises, then_gets, without}
 use Rattle.value_soundness.proofs.Safety.{typing_of, Safe, SafeWith, SafeCalls, counted_safe, none_awaits_safe}
@@ -78,7 +78,7 @@ low (suc n) x (suc k, within, is) = let h = low n x (k, omega (arith, within), i
 
 -- ---- calls
 
-module _ (here : Setting) (exposed : List ℕ) (objects : List Shape) (ground : Ground here.layout here.node objects) where
+module _ (here : Setting) (exposed : List ℕ) (objects : List Shape) (footing : Footing here.layout here.node objects) where
   -- the locals of a function, whose parameters have begun
   abbrev entry : Function → Typing
   entry f = typing_of (scope_of objects here.program f)
@@ -90,7 +90,7 @@ module _ (here : Setting) (exposed : List ℕ) (objects : List Shape) (ground : 
   body_safe call safe ts f typed within first back ok gs m left g =
       let scope = scope_of objects here.program f in
       let fewest : Typing = record { locals = scope.locals; begun = [] } in
-      does_safe here exposed call safe ts f.body scope ground (refl, refl) (kind_of_type f.result) false false (first + 1)
+      does_safe here exposed call safe ts f.body scope footing (refl, refl) (kind_of_type f.result) false false (first + 1)
       (in_body here back) _ typed within ok tt tt
       (λ gs m left g. ok (constant_of here (zero_of f.result)) f.line gs m left (zero_is here exposed f.result)
       (good_restrict here.layout exposed (record { locals = scope.locals; begun = begins f.body ++ scope.begun }) fewest ts gs m refl
@@ -166,11 +166,11 @@ pub promises : (layout : Arrangement) (program : Program) (node budget : ℕ) �
 promises layout program node budget source below =
     let here : Setting = record { layout = layout; node = node; program = program } in
     let typed = source.typed in
-    let ground : Ground layout node (map (λ object. object.shape) layout.objects) =
+    let footing : Footing layout node (map (λ object. object.shape) layout.objects) =
     record { laid = source.laid; few = source.few_nodes; shapes = refl; node_within = below } in
     without layout (exposes_of program) (Sync 0) [] (pointed here budget)
     (subst (λ (o : Option Function). PromisesPointed layout (exposes_of program) [] (begun here o budget)) (sym typed.begins)
-    (begun_safe here (exposes_of program) (map (λ object. object.shape) layout.objects) ground typed.functions
+    (begun_safe here (exposes_of program) (map (λ object. object.shape) layout.objects) footing typed.functions
     (λ n f at. exposed_there program.functions n f at) typed.main budget typed.begins typed.no_params))
 
 -- ---- runs

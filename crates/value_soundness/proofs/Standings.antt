@@ -1,5 +1,5 @@
 -- Where a node stands after a past: what it was answered, what it has made, and what it does next. Each own event leads it on.
-use Rattle.std.proofs.Common.{◌≡◌, ◌≢◌, ℕ, zero, suc, ◌+◌, ◌<◌, ◌≤◌, ◌⊎◌, inl, inr, Option, Some, None, Bool, true, false, List, [], ◌∷◌, ◌++◌, length, slice_get, append_assoc, length-append, refl, sym, ap, ◌∙◌, subst, arith}
+use Rattle.std.proofs.Common.{◌≡◌, ◌≢◌, ℕ, ◌+◌, ◌≤◌, ◌⊎◌, inl, inr, Option, Some, None, Bool, true, false, List, [], ◌∷◌, ◌++◌, length, slice_get, append_assoc, length-append, refl, sym, ap, ◌∙◌, subst, arith}
 use Rattle.std.specs.List.{All}
 use Rattle.std.proofs.lemmas.List.Elements.{All-cons, All-push, All-weaker}
 use Rattle.resumption.specs.Resumption.{run_of}
@@ -10,15 +10,14 @@ use Rattle.sc_base.specs.declared.value.Value.{Value}
 use Rattle.sc_layout.specs.Layout.{Arrangement}
 use Rattle.sc_isa.specs.Fitting.{fits, fits_all}
 use Rattle.effect_order.specs.Effect.{Effect}
-use Rattle.effect_order.specs.Transfer.{part_place}
 use Rattle.sc_meaning.specs.declared.request.Request.{Request}
 use Rattle.sc_meaning.specs.declared.request.Request.TheVariants.{Read, Write, Get, Put, Store, Copy, Sync, Barrier, AllStoreSync}
 use Rattle.sc_meaning.specs.Asking.{fits_barrier, Answer, Shown, Landed, Passed, Broken, Halt, SourceDoing}
-use Rattle.sc_meaning.specs.Parts.{transfer_of, is_issued}
+use Rattle.sc_meaning.specs.Parts.{is_issued}
 use Rattle.value_soundness.specs.Lawful.{NamesOnly, AnswerNamesOnly}
 use Rattle.value_soundness.proofs.Promises.{then_gets, is_asked, fits_request, Promises}
-use Rattle.value_soundness.proofs.Answered.{Leads, leads_on, leads_events, gets_after, gets_after_all, Answers, answers}
-use Rattle.value_soundness.proofs.Gets.{get_front, get_at, get_back, Behind, get_next, front_of, GetsAre, no_more, gets_kept, gets_push}
+use Rattle.value_soundness.proofs.Answered.{Leads, leads_on, leads_events, gets_after, gets_after_all, answers}
+use Rattle.value_soundness.proofs.Gets.{get_front, get_at, get_next, front_of, GetsAre, no_more, gets_kept, gets_push}
 use Rattle.value_soundness.proofs.Effects.{IsOfRequest}
 
 -- what a past says of a node

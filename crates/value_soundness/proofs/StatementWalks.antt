@@ -15,7 +15,7 @@ use Rattle.sc_meaning.specs.Points.{size_of}
 use Rattle.sc_meaning.specs.Steps.{Rest, Calls, none_awaits, mode_of}
 use Rattle.sc_meaning.specs.Meaning.{Setting, Jumps, rounds, does}
 use Rattle.value_soundness.proofs.Values.{IsOf}
-use Rattle.value_soundness.proofs.Deeds.{Ground, Within}
+use Rattle.value_soundness.proofs.Deeds.{Footing, Within}
 use Rattle.value_soundness.proofs.Layouts.{not_void}
 use Rattle.value_soundness.proofs.Actions.{uses_fits}
 use Rattle.value_soundness.proofs.Memories.{Typing, Good, good_restrict}
@@ -146,16 +146,16 @@ module _ (here : Setting) (exposed : List ℕ) (call : Calls) (safe : SafeCalls 
   abbrev IsFrom : Scope → Type 0
   IsFrom scope = (scope.functions ≡ here.program.functions) × (scope.texts ≡ length here.program.texts)
 
-  pub does_safe : (s : Does) (scope : Scope) → Ground here.layout here.node scope.objects → IsFrom scope
+  pub does_safe : (s : Does) (scope : Scope) → Footing here.layout here.node scope.objects → IsFrom scope
       → (result : Kind) (breaks continues : Bool) (k : ℕ) (j : Jumps) (rest : Rest) → IsTypedDoes scope result breaks continues s
       → Within exposed (exposes_in s) → SafeBack here exposed ts scope.locals result j.back → If breaks (SafeRest scope j.out)
       → If continues (SafeRest scope j.again) → SafeRest (after scope s) rest → SafeRest scope (does here call s k j rest)
-  does_safe nothing scope ground from result breaks continues k j rest h w back out again next gs m left g = next gs m left g
-  does_safe break scope ground from result breaks continues k j rest h w back out again next gs m left g =
+  does_safe nothing scope footing from result breaks continues k j rest h w back out again next gs m left g = next gs m left g
+  does_safe break scope footing from result breaks continues k j rest h w back out again next gs m left g =
       if_jumps breaks (SafeRest scope j.out) h out gs m left g
-  does_safe continue scope ground from result breaks continues k j rest h w back out again next gs m left g =
+  does_safe continue scope footing from result breaks continues k j rest h w back out again next gs m left g =
       if_jumps continues (SafeRest scope j.again) h again gs m left g
-  does_safe (then_ first (then_ (loop (Some x) before body after_) more)) scope ground from result breaks continues k j rest h w back out again next gs m left g =
+  does_safe (then_ first (then_ (loop (Some x) before body after_) more)) scope footing from result breaks continues k j rest h w back out again next gs m left g =
       let parts = mine_parts scope result breaks continues x first before after_ h.0 in
       let of_loop = exposes_in before ++ exposes_in body ++ exposes_in after_ in
       let behind = in_right exposed (exposes_in first) (of_loop ++ exposes_in more) w in
@@ -163,67 +163,67 @@ module _ (here : Setting) (exposed : List ℕ) (call : Calls) (safe : SafeCalls 
       let k2 = k + size_of first in
       let k3 = k2 + size_of (loop (Some x) before body after_) in
       let last : SafeRest scope (does here call more k3 j rest) =
-      does_safe more scope ground from result breaks continues k3 j rest h.2
+      does_safe more scope footing from result breaks continues k3 j rest h.2
       (in_right exposed of_loop (exposes_in more) behind) back out again
       (behind_nothing scope (begins first) (begins more) rest parts.first_begins
       (in_turn scope (begins first) (begins more) rest next)) in
       let around : SafeRest scope (does here call (then_ (loop (Some x) before body after_) more) k2 j rest) =
       λ gs m left g. loop_safe scope result (Some x) before body after_
-      (λ k j rest back out again next. does_safe before scope ground from result true false k j rest parts.before_typed
+      (λ k j rest back out again next. does_safe before scope footing from result true false k j rest parts.before_typed
       (first_in exposed (exposes_in before) (exposes_in body) (exposes_in after_) inside) back out again next)
-      (λ k j rest back out again next. does_safe body scope ground from result true true k j rest h.1
+      (λ k j rest back out again next. does_safe body scope footing from result true true k j rest h.1
       (second_in exposed (exposes_in before) (exposes_in body) (exposes_in after_) inside) back out again next)
-      (λ k j rest back out again next. does_safe after_ scope ground from result true false k j rest parts.next_typed
+      (λ k j rest back out again next. does_safe after_ scope footing from result true false k j rest parts.next_typed
       (third_in exposed (exposes_in before) (exposes_in body) (exposes_in after_) inside) back out again next)
       k2 j (does here call more k3 j rest) back last gs m left g in
-      does_safe first scope ground from result breaks continues k j
+      does_safe first scope footing from result breaks continues k j
       (does here call (then_ (loop (Some x) before body after_) more) k2 j rest) parts.first_typed
       (in_left exposed (exposes_in first) (of_loop ++ exposes_in more) w) back out again
       (widened scope (begins first) (does here call (then_ (loop (Some x) before body after_) more) k2 j rest) around) gs m left g
-  does_safe (then_ first second) scope ground from result breaks continues k j rest h w back out again next gs m left g =
-      does_safe first scope ground from result breaks continues k j _ h.0
+  does_safe (then_ first second) scope footing from result breaks continues k j rest h w back out again next gs m left g =
+      does_safe first scope footing from result breaks continues k j _ h.0
       (in_left exposed (exposes_in first) (exposes_in second) w) back out again
-      (does_safe second (after scope first) ground from result breaks continues (k + size_of first) j rest h.1
+      (does_safe second (after scope first) footing from result breaks continues (k + size_of first) j rest h.1
       (in_right exposed (exposes_in first) (exposes_in second) w) back (widened_if breaks scope (begins first) j.out out)
       (widened_if continues scope (begins first) j.again again)
       (in_turn scope (begins first) (begins second) rest next)) gs m left g
-  does_safe (act action arguments line) scope ground from result breaks continues k j rest h w back out again next gs m left g =
-      values_safe here exposed call safe ts scope ground from.0 arguments h.0 k _ h.1 w
-      (λ vs are gs m left g. enacts here.layout exposed (not_void here.layout ground.laid) scope call
-      (calls_safe here exposed call safe ts scope ground from.0) ts (begins (act action arguments line)) (mode_of action)
+  does_safe (act action arguments line) scope footing from result breaks continues k j rest h w back out again next gs m left g =
+      values_safe here exposed call safe ts scope footing from.0 arguments h.0 k _ h.1 w
+      (λ vs are gs m left g. enacts here.layout exposed (not_void here.layout footing.laid) scope call
+      (calls_safe here exposed call safe ts scope footing from.0) ts (begins (act action arguments line)) (mode_of action)
       (done_of here.layout here.program.texts action vs) line rest
-      (uses_fits here.layout exposed scope here.node (not_void here.layout ground.laid) here.program.texts from.1 h.2 vs arguments line are)
+      (uses_fits here.layout exposed scope here.node (not_void here.layout footing.laid) here.program.texts from.1 h.2 vs arguments line are)
       next gs m left g) gs m left g
-  does_safe (choose false test on off) scope ground from result breaks continues k j rest h w back out again next gs m left g =
-      value_safe here exposed call safe ts scope ground from.0 test number k _ h.0
+  does_safe (choose false test on off) scope footing from result breaks continues k j rest h w back out again next gs m left g =
+      value_safe here exposed call safe ts scope footing from.0 test number k _ h.0
       (first_in exposed (exposes test) (exposes_in on) (exposes_in off) w)
       (λ v is gs m left g. number_test here.layout exposed gs here.node v _ _ is
-      (does_safe on scope ground from result breaks continues _ j rest h.1
+      (does_safe on scope footing from result breaks continues _ j rest h.1
       (second_in exposed (exposes test) (exposes_in on) (exposes_in off) w) back out again (widened scope (begins on) rest next) gs m left g)
-      (does_safe off scope ground from result breaks continues _ j rest h.2
+      (does_safe off scope footing from result breaks continues _ j rest h.2
       (third_in exposed (exposes test) (exposes_in on) (exposes_in off) w) back out again (widened scope (begins off) rest next) gs m left g))
       gs m left g
-  does_safe (choose true test on off) scope ground from result breaks continues k j rest h w back out again next gs m left g =
-      value_safe here exposed call safe ts scope ground from.0 test (pointer_to h.0) k _ h.1
+  does_safe (choose true test on off) scope footing from result breaks continues k j rest h w back out again next gs m left g =
+      value_safe here exposed call safe ts scope footing from.0 test (pointer_to h.0) k _ h.1
       (first_in exposed (exposes test) (exposes_in on) (exposes_in off) w)
       (λ v is gs m left g. pointer_test here.layout exposed gs here.node v _ _
-      (does_safe on scope ground from result breaks continues _ j rest h.2
+      (does_safe on scope footing from result breaks continues _ j rest h.2
       (second_in exposed (exposes test) (exposes_in on) (exposes_in off) w) back out again (widened scope (begins on) rest next) gs m left g)
-      (does_safe off scope ground from result breaks continues _ j rest h.3
+      (does_safe off scope footing from result breaks continues _ j rest h.3
       (third_in exposed (exposes test) (exposes_in on) (exposes_in off) w) back out again (widened scope (begins off) rest next) gs m left g))
       gs m left g
-  does_safe (loop None before body after_) scope ground from result breaks continues k j rest h w back out again next gs m left g =
+  does_safe (loop None before body after_) scope footing from result breaks continues k j rest h w back out again next gs m left g =
       loop_safe scope result None before body after_
-      (λ k j rest back out again next. does_safe before scope ground from result true false k j rest h.0
+      (λ k j rest back out again next. does_safe before scope footing from result true false k j rest h.0
       (first_in exposed (exposes_in before) (exposes_in body) (exposes_in after_) w) back out again next)
-      (λ k j rest back out again next. does_safe body scope ground from result true true k j rest h.1
+      (λ k j rest back out again next. does_safe body scope footing from result true true k j rest h.1
       (second_in exposed (exposes_in before) (exposes_in body) (exposes_in after_) w) back out again next)
-      (λ k j rest back out again next. does_safe after_ scope ground from result true false k j rest h.2
+      (λ k j rest back out again next. does_safe after_ scope footing from result true false k j rest h.2
       (third_in exposed (exposes_in before) (exposes_in body) (exposes_in after_) w) back out again next)
       k j rest back next gs m left g
-  does_safe (loop (Some x) before body after_) scope ground from result breaks continues k j rest h w back out again next gs m left g = absurd h
-  does_safe (return e line) scope ground from result breaks continues k j rest h w back out again next gs m left g =
-      value_safe here exposed call safe ts scope ground from.0 e result k _ h w
+  does_safe (loop (Some x) before body after_) scope footing from result breaks continues k j rest h w back out again next gs m left g = absurd h
+  does_safe (return e line) scope footing from result breaks continues k j rest h w back out again next gs m left g =
+      value_safe here exposed call safe ts scope footing from.0 e result k _ h w
       (λ v is gs m left g. back v line gs m left is
       (good_restrict here.layout exposed (typing_of scope) (record { locals = scope.locals; begun = [] }) ts gs m refl
       (λ x c. none_begun x c) g)) gs m left g

@@ -12,7 +12,7 @@ use Rattle.sc_layout.specs.Layout.{Arrangement, LaidObject}
 use Rattle.sc_layout.specs.Place.{IsPlace, IsPointerTo, FitsType}
 use Rattle.sc_core.specs.Places.{without_last}
 use Rattle.sc_core.specs.Kinds.{Kind, number, to, named, kind_of}
-use Rattle.value_soundness.specs.Lawful.{NamesOnly, IsLawful}
+use Rattle.value_soundness.specs.Lawful.{NamesOnly, IsLawfulAt}
 
 -- the pointer is to a cell whose type has these stars
 pub record Points (layout : Arrangement) (cell : List Star) (object node offset : ℕ) : Type 0 where
@@ -86,7 +86,7 @@ module _ (layout : Arrangement) (exposed : List ℕ) where
           pointer_of ty.stars laid.shape.ty.stars p.star object node offset p.stars
           (record { laid = laid; laid_is = e; stars = refl; node_within = h.0; offset_within = h.1 }) names
 
-  pub of_cell : (cell : List Star) (place : Place) (v : Value) → IsCell layout cell place → IsLawful layout exposed place v
+  pub of_cell : (cell : List Star) (place : Place) (v : Value) → IsCell layout cell place → IsLawfulAt layout exposed place v
       → IsOf layout exposed (kind_of cell) v
   of_cell cell place v c l =
       subst (λ (stars : List Star). IsOf layout exposed (kind_of stars) v) c.stars
@@ -135,7 +135,7 @@ module _ (layout : Arrangement) (exposed : List ℕ) (laid : (k : ℕ) (o : Laid
   to_type ty (Ptr object node offset) void h = pointer_type ty ty.stars object node offset void refl h
 
   pub to_cell : (cell : List Star) (place : Place) (v : Value) → IsCell layout cell place
-      → IsOf layout exposed (kind_of cell) v → IsLawful layout exposed place v
+      → IsOf layout exposed (kind_of cell) v → IsLawfulAt layout exposed place v
   to_cell cell place v c h =
       let both = to_type c.laid.shape.ty v (laid place.object c.laid c.laid_is)
       (subst (λ (stars : List Star). IsOf layout exposed (kind_of stars) v) (sym c.stars) h) in

@@ -15,7 +15,7 @@ use Rattle.sc_core.specs.Typed.{TakesBack, Has, Have}
 use Rattle.sc_meaning.specs.Steps.{Rest, Calls}
 use Rattle.sc_meaning.specs.Meaning.{Setting, constant_of, performed, taken_back, value, values}
 use Rattle.value_soundness.proofs.Values.{IsOf, AreOf}
-use Rattle.value_soundness.proofs.Deeds.{Ground, Within, MadeFits, computes_fits, takes_fits}
+use Rattle.value_soundness.proofs.Deeds.{Footing, Within, MadeFits, computes_fits, takes_fits}
 use Rattle.value_soundness.proofs.Layouts.{not_void}
 use Rattle.value_soundness.proofs.Memories.{Typing}
 use Rattle.value_soundness.proofs.Safety.{typing_of, Safe, SafeWith, SafeCalls, number_test, pointer_test, performs}
@@ -42,13 +42,13 @@ none_in exposed o (k, within, is) = absurd (let no : ⊥ = omega (arith, within)
 
 -- ---- constants
 
-pub constant_is : (here : Setting) (exposed : List ℕ) (objects : _) → Ground here.layout here.node objects → {c : Constant} {k : Kind}
+pub constant_is : (here : Setting) (exposed : List ℕ) (objects : _) → Footing here.layout here.node objects → {c : Constant} {k : Kind}
     → IsConstant c k → IsOf here.layout exposed k (constant_of here c)
-constant_is here exposed objects ground (of_number fits) = fits
-constant_is here exposed objects ground of_null = tt
-constant_is here exposed objects ground of_mine =
-    let few = ground.few in let within = ground.node_within in record { sfits = omega (arith, few, within) }
-constant_is here exposed objects ground of_procs = let few = ground.few in record { sfits = omega (arith, few) }
+constant_is here exposed objects footing (of_number fits) = fits
+constant_is here exposed objects footing of_null = tt
+constant_is here exposed objects footing of_mine =
+    let few = footing.few in let within = footing.node_within in record { sfits = omega (arith, few, within) }
+constant_is here exposed objects footing of_procs = let few = footing.few in record { sfits = omega (arith, few) }
 
 -- ---- scopes
 
@@ -65,7 +65,7 @@ module _ (here : Setting) (exposed : List ℕ) (call : Calls) (safe : SafeCalls 
   abbrev SafeNext : Scope → Kind → (Value → Rest) → Type 0
   SafeNext scope k go = SafeWith here.layout exposed (typing_of scope ∷ ts) k go
 
-  module _ (scope : Scope) (ground : Ground here.layout here.node scope.objects) (functions : scope.functions ≡ here.program.functions) where
+  module _ (scope : Scope) (footing : Footing here.layout here.node scope.objects) (functions : scope.functions ≡ here.program.functions) where
     pub calls_safe : SafeCalls here.layout exposed scope.functions call
     calls_safe = subst (λ (fs : List Function). SafeCalls here.layout exposed fs call) (sym functions) safe
 
@@ -73,7 +73,7 @@ module _ (here : Setting) (exposed : List ℕ) (call : Calls) (safe : SafeCalls 
         → MadeFits here.layout exposed scope k (made_of here.layout here.node operation vs) → SafeNext scope k go
         → SafeRest scope (performed here call operation vs line go)
     performing k operation vs line go h next =
-        performs here.layout exposed (not_void here.layout ground.laid) scope call calls_safe ts k
+        performs here.layout exposed (not_void here.layout footing.laid) scope call calls_safe ts k
         (made_of here.layout here.node operation vs) line go h next
 
     back_safe : (back : Option Operation) (point line : ℕ) (k : Kind) (go : Value → Rest) → TakesBack back k → SafeNext scope k go
@@ -81,18 +81,18 @@ module _ (here : Setting) (exposed : List ℕ) (call : Calls) (safe : SafeCalls 
     back_safe None point line k go h next v is gs m left g = next v is gs m left g
     back_safe (Some operation) point line k go h next v is gs m left g =
         performing k operation (v ∷ Int (pos 1) ∷ []) line go
-        (computes_fits here.layout exposed scope here.node ground h (v ∷ Int (pos 1) ∷ []) (is, (record { sfits = omega arith }, tt)))
+        (computes_fits here.layout exposed scope here.node footing h (v ∷ Int (pos 1) ∷ []) (is, (record { sfits = omega arith }, tt)))
         next gs m left g
 
     mutual
       pub value_safe : (e : Core) (kind : Kind) (k : ℕ) (go : Value → Rest) → Has scope e kind → Within exposed (exposes e)
           → SafeNext scope kind go → SafeRest scope (value here call e k go)
       value_safe (constant c) kind k go h w next gs m left g =
-          next (constant_of here c) (constant_is here exposed scope.objects ground h) gs m left g
+          next (constant_of here c) (constant_is here exposed scope.objects footing h) gs m left g
       value_safe (step operation arguments line) kind k go h w next gs m left g =
           values_safe arguments h.0 k _ h.1 (in_left exposed (exposes_all arguments) (exposed_by operation) w)
           (λ vs are gs m left g. performing kind operation vs line go
-          (takes_fits here.layout exposed scope here.node ground h.2
+          (takes_fits here.layout exposed scope here.node footing h.2
           (in_right exposed (exposes_all arguments) (exposed_by operation) w) vs are) next gs m left g) gs m left g
       value_safe (choice false test on off) kind k go h w next gs m left g =
           value_safe test number k _ h.1 (first_in exposed (exposes test) (exposes on) (exposes off) w)
@@ -110,13 +110,13 @@ module _ (here : Setting) (exposed : List ℕ) (call : Calls) (safe : SafeCalls 
           value_safe pointer h.1 k _ h.5 (in_left exposed (exposes pointer) (exposes right) w)
           (λ p at gs m left g. performing kind Read (p ∷ []) line _
           (subst (λ (k : Kind). MadeFits here.layout exposed scope k (made_of here.layout here.node Read (p ∷ []))) (sym h.3)
-          (takes_fits here.layout exposed scope here.node ground (read h.4) (none_in exposed) (p ∷ []) (at, tt)))
+          (takes_fits here.layout exposed scope here.node footing (read h.4) (none_in exposed) (p ∷ []) (at, tt)))
           (λ old was gs m left g. value_safe right h.2 _ _ h.6 (in_right exposed (exposes pointer) (exposes right) w)
           (λ by is gs m left g. performing kind operation (old ∷ by ∷ []) line _
-          (computes_fits here.layout exposed scope here.node ground h.7 (old ∷ by ∷ []) (was, (is, tt)))
+          (computes_fits here.layout exposed scope here.node footing h.7 (old ∷ by ∷ []) (was, (is, tt)))
           (λ new made gs m left g. performing kind Write (p ∷ new ∷ []) line _
           (subst (λ (k : Kind). MadeFits here.layout exposed scope k (made_of here.layout here.node Write (p ∷ new ∷ []))) (sym h.3)
-          (takes_fits here.layout exposed scope here.node ground (write h.4) (none_in exposed) (p ∷ new ∷ []) (at, (as_cell new made, tt))))
+          (takes_fits here.layout exposed scope here.node footing (write h.4) (none_in exposed) (p ∷ new ∷ []) (at, (as_cell new made, tt))))
           (back_safe back _ line kind go h.8 next) gs m left g) gs m left g) gs m left g) gs m left g) gs m left g
 
       pub values_safe : (es : Arguments) (kinds : List Kind) (k : ℕ) (go : List Value → Rest) → Have scope es kinds

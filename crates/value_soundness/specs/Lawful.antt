@@ -20,7 +20,7 @@ NamesOnly exposed (Ptr object node offset) = Contains exposed object
 NamesOnly exposed _ = Unit {0}
 
 -- the value may stand in the place's cell, where these objects are exposed
-pub record IsLawful (layout : Arrangement) (exposed : List ℕ) (place : Place) (value : Value) : Type 0 where
+pub record IsLawfulAt (layout : Arrangement) (exposed : List ℕ) (place : Place) (value : Value) : Type 0 where
   pub fits : Fits layout place value
   pub names : NamesOnly exposed value
 
@@ -29,10 +29,10 @@ module _ (layout : Arrangement) (exposed : List ℕ) where
   -- the cells are of one type
   abbrev pub IsLawfulRequest : Request → Type 0
   IsLawfulRequest (Read place line) = IsPlace layout place
-  IsLawfulRequest (Write place value line) = IsPlace layout place × IsLawful layout exposed place value
+  IsLawfulRequest (Write place value line) = IsPlace layout place × IsLawfulAt layout exposed place value
   IsLawfulRequest (Get place line) = IsPlace layout place
-  IsLawfulRequest (Put place value line) = IsPlace layout place × IsLawful layout exposed place value
-  IsLawfulRequest (Store place value line) = IsPlace layout place × IsLawful layout exposed place value
+  IsLawfulRequest (Put place value line) = IsPlace layout place × IsLawfulAt layout exposed place value
+  IsLawfulRequest (Store place value line) = IsPlace layout place × IsLawfulAt layout exposed place value
   IsLawfulRequest (Copy from to cells mode line) = IsPlacedCopy layout from to cells
   IsLawfulRequest _ = Unit {0}
 
@@ -44,7 +44,7 @@ module _ (layout : Arrangement) (exposed : List ℕ) where
   -- the effect is on a cell of the layout, and what is read or written there is lawful
   pub record IsLawfulEffect (effect : Effect) : Type 0 where
     pub placed : IsPlace layout effect.place
-    pub lawful : IsLawful layout exposed effect.place effect.value
+    pub lawful : IsLawfulAt layout exposed effect.place effect.value
 
 -- the pointers among the answer's values name these objects only
 abbrev pub AnswerNamesOnly : (exposed : List ℕ) → Answer → Type 0
