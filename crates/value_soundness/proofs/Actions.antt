@@ -45,7 +45,8 @@ module _ (layout : Arrangement) (exposed : List ℕ) where
       → nat_le (offset + cells) (extent_of layout node object) ≡ b → Points layout cell object node offset
       → SpanFits cell cells (if b then Ok (record { object = object; node = node; offset = offset }) else Err fault)
   in_extent cell cells object node offset true fault e p =
-      let low : offset + cells ≤ extent_of layout node object = leb-true (offset + cells) (extent_of layout node object) e in
+      let low : offset + cells ≤ extent_of layout node object = leb-true (offset + cells)
+      (extent_of layout node object) e in
       record {
         places = λ k below. record {
           object = slice_get_within layout.objects object p.laid p.laid_is;
@@ -91,13 +92,15 @@ module _ (layout : Arrangement) (exposed : List ℕ) where
     DoneFits new (waits counter) = new ≡ []
     DoneFits new (meets stores) = new ≡ []
 
-    fill_fits : (cell : List Star) (x : ℕ) (s : Spotted) → SpotFits layout exposed cell s → IsLocal scope x (kind_of cell)
+    fill_fits : (cell : List Star) (x : ℕ) (s : Spotted) → SpotFits layout exposed cell s
+        → IsLocal scope x (kind_of cell)
         → DoneFits (x ∷ []) (filling x s)
     fill_fits cell x (found place) h i = (cell, h, i, refl)
     fill_fits cell x (missing fault) h i = tt
     fill_fits cell x nowhere h i = absurd h
 
-    get_fits : (cell : List Star) (x : ℕ) (s : Spotted) → SpotFits layout exposed cell s → IsLocal scope x (kind_of cell)
+    get_fits : (cell : List Star) (x : ℕ) (s : Spotted) → SpotFits layout exposed cell s
+        → IsLocal scope x (kind_of cell)
         → DoneFits [] (getting x s)
     get_fits cell x (found place) h i = (cell, h, i, refl)
     get_fits cell x (missing fault) h i = tt
@@ -118,7 +121,8 @@ module _ (layout : Arrangement) (exposed : List ℕ) where
     same_type : (a b : Ty) → a.stars ≡ b.stars → a.void ≡ b.void → a ≡ b
     same_type a b e f = λ i. record { stars = e i; void = f i }
 
-    module _ (node : ℕ) (void : (k : ℕ) (o : LaidObject) → slice_get layout.objects k ≡ Some o → o.shape.ty.void ≡ false) where
+    module _ (node : ℕ) (void : (k : ℕ) (o : LaidObject) → slice_get layout.objects k ≡ Some o
+        → o.shape.ty.void ≡ false) where
       copied_from_fits : (cell : List Star) (cells : ℕ) (to : Place) (r : Result Place FaultKind) → 0 < cells
           → IsSpan cell cells to → SpanFits cell cells r → DoneFits [] (copied_from to cells r)
       copied_from_fits cell cells to (Ok from) some t f = (
@@ -152,7 +156,8 @@ module _ (layout : Arrangement) (exposed : List ℕ) where
       some_cells : (n : ℕ) → suc n % 8 ≡ 0 → 0 < suc n / 8
       some_cells n e = omega (arith, e)
 
-      copying_fits : (cell : List Star) (p q : Kind) → IsPlaceOf cell p → IsPlaceOf cell q → (to from : Value) (bytes : ℤ)
+      copying_fits : (cell : List Star) (p q : Kind) → IsPlaceOf cell p → IsPlaceOf cell q
+          → (to from : Value) (bytes : ℤ)
           → IsOf layout exposed p to → IsOf layout exposed q from → DoneFits [] (copying layout to from bytes)
       copying_fits cell p q ip iq to from (pos zero) h k = refl
       copying_fits cell p q ip iq to from (pos (suc n)) h k =
@@ -177,7 +182,8 @@ module _ (layout : Arrangement) (exposed : List ℕ) where
       copy_fits texts mode cell p q ip iq to from Null h k f = absurd f
       copy_fits texts mode cell p q ip iq to from (Ptr object at offset) h k f = absurd f
 
-      text_given : (texts : List Text) (text : ℕ) (o : Option Text) (go : List ℕ → Done) → o ≡ Some (Rattle.std.specs.List.slice_index_or texts text [])
+      text_given : (texts : List Text) (text : ℕ) (o : Option Text) (go : List ℕ → Done)
+          → o ≡ Some (Rattle.std.specs.List.slice_index_or texts text [])
           → ((format : List ℕ) → DoneFits [] (go format)) → DoneFits [] (option_map_or go o sticks)
       text_given texts text (Some format) go e h = h format
       text_given texts text None go e h = absurd (cc)
@@ -190,7 +196,8 @@ module _ (layout : Arrangement) (exposed : List ℕ) where
           (λ format. rw (all.are) refl)
 
       -- a step on values of the kinds that it takes
-      pub uses_fits : (texts : List Text) → scope.texts ≡ length texts → {action : Action} {kinds : List Kind} → Uses scope action kinds
+      pub uses_fits : (texts : List Text) → scope.texts ≡ length texts → {action : Action} {kinds : List Kind}
+          → Uses scope action kinds
           → (vs : List Value) (arguments : Arguments) (line : ℕ) → AreOf layout exposed kinds vs
           → DoneFits (begins (act action arguments line)) (done_of layout texts action vs)
       uses_fits texts many drop [] arguments line f = absurd f

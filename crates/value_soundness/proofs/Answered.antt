@@ -1,5 +1,5 @@
--- Where answers lead: what was done up to the last of them, and what is left. The next request that is asked is answered
--- next, and nothing is done behind it before.
+-- Where answers lead: what was done up to the last of them, and what is left. The next request that is asked is
+-- answered next, and nothing is done behind it before.
 use Rattle.std.proofs.Common.{◌≡◌, ℕ, Option, Some, None, Bool, true, false, List, [], ◌∷◌, ◌++◌, refl, sym, ap, ◌∙◌, subst}
 use Rattle.std.specs.Prelude.{IsSome}
 use Rattle.std.specs.Option.{option_map}
@@ -12,10 +12,12 @@ use Rattle.value_soundness.specs.Lawful.{AnswerNamesOnly}
 use Rattle.value_soundness.proofs.Promises.{then_gets, is_asked, fits_request, Promises}
 
 -- the answers are asked for and fit; up to the last of them these events are, and behind them what is left
-pub data Leads (Event Given Stop : Type 0) : Doing Event Given Stop → List Given → List Event → Doing Event Given Stop → Type 0 where
+pub data Leads (Event Given Stop : Type 0) : Doing Event Given Stop → List Given → List Event
+    → Doing Event Given Stop → Type 0 where
   at_once : {d : Doing Event Given Stop} → Leads Event Given Stop d [] [] d
   asked : {event : Event} {test : Given → Bool} {go : Given → Doing Event Given Stop} {a : Given} {more : List Given}
-      {events : List Event} {rest : Doing Event Given Stop} → test a ≡ true → Leads Event Given Stop (go a) more events rest
+      {events : List Event} {rest : Doing Event Given Stop} → test a ≡ true
+      → Leads Event Given Stop (go a) more events rest
       → Leads Event Given Stop (Asks event test go) (a ∷ more) (event ∷ events) rest
   made : {event : Event} {d : Doing Event Given Stop} {a : Given} {more : List Given} {events : List Event}
       {rest : Doing Event Given Stop} → Leads Event Given Stop d (a ∷ more) events rest
@@ -76,7 +78,8 @@ gets_after_all gets (x ∷ xs) ys = gets_after_all (then_gets gets x) xs ys
 
 module _ (layout : Arrangement) (exposed : List ℕ) where
   -- the requests are made up to this one, which is asked and so answered
-  pub record Answers (d : SourceDoing) (gets : List Place) (before : List Request) (request : Request) (behind : List Request) (answer : Answer) : Type 0 where
+  pub record Answers (d : SourceDoing) (gets : List Place) (before : List Request) (request : Request)
+      (behind : List Request) (answer : Answer) : Type 0 where
     pub rest : SourceDoing
     pub leads : Leads Request Answer Halt d (answer ∷ []) (before ++ request ∷ []) rest
     pub promises : Promises layout exposed (then_gets (gets_after gets before) request) rest
@@ -87,13 +90,15 @@ module _ (layout : Arrangement) (exposed : List ℕ) where
       → Answers (Makes event d) gets (r ∷ before) request behind answer
   made_first event r d gets before request behind answer same more = record {
     rest = more.rest;
-    leads = subst (λ (r : Request). Leads Request Answer Halt (Makes event d) (answer ∷ []) (r ∷ (before ++ request ∷ [])) more.rest)
+    leads = subst (λ (r : Request). Leads Request Answer Halt (Makes event d) (answer ∷ []) (r ∷
+        (before ++ request ∷ [])) more.rest)
         same (made {rest = more.rest} more.leads);
     promises = more.promises;
     last = more.last;
   }
 
-  pub answers : (d : SourceDoing) (gets : List Place) (before : List Request) (request : Request) (behind : List Request)
+  pub answers : (d : SourceDoing) (gets : List Place) (before : List Request) (request : Request)
+      (behind : List Request)
       (answer : Answer) → Promises layout exposed gets d → (run_of d []).events ≡ before ++ request ∷ behind
       → is_asked request ≡ true → fits_request layout (gets_after gets before) request answer ≡ true
       → AnswerNamesOnly exposed answer → Answers d gets before request behind answer
@@ -103,9 +108,11 @@ module _ (layout : Arrangement) (exposed : List ℕ) where
       let right : test answer ≡ true = h.0.fits answer ∙ (rw same fit) in
       record {
         rest = go answer;
-        leads = subst (λ (r : Request). Leads Request Answer Halt (Asks event test go) (answer ∷ []) (r ∷ []) (go answer)) same
+        leads = subst (λ (r : Request). Leads Request Answer Halt (Asks event test go) (answer ∷ []) (r ∷ [])
+            (go answer)) same
             (asked right at_once);
-        promises = subst (λ (r : Request). Promises layout exposed (then_gets gets r) (go answer)) same (h.1 answer right names);
+        promises = subst (λ (r : Request). Promises layout exposed (then_gets gets r) (go answer)) same
+            (h.1 answer right names);
         last = none;
       }
   answers (Asks event test go) gets (r ∷ before) request behind answer h e is fit names =

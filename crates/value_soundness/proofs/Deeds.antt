@@ -39,13 +39,15 @@ pub record Laid (layout : Arrangement) (object : ℕ) (shape : Shape) : Type 0 w
   pub laid_is : slice_get layout.objects object ≡ Some laid
   pub shape_is : laid.shape ≡ shape
 
-laid_by : (layout : Arrangement) (object : ℕ) (shape : Shape) (o : Option LaidObject) → slice_get layout.objects object ≡ o
+laid_by : (layout : Arrangement) (object : ℕ) (shape : Shape) (o : Option LaidObject)
+    → slice_get layout.objects object ≡ o
     → option_map (λ (o : LaidObject). o.shape) o ≡ Some shape → Laid layout object shape
 laid_by layout object shape None at h = absurd (cc)
 laid_by layout object shape (Some laid) at h = record { laid = laid; laid_is = at; shape_is = cc }
 
 -- the object that has this shape
-pub laid_of : (layout : Arrangement) (node : ℕ) (objects : List Shape) → Footing layout node objects → (object : ℕ) (shape : Shape)
+pub laid_of : (layout : Arrangement) (node : ℕ) (objects : List Shape) → Footing layout node objects
+    → (object : ℕ) (shape : Shape)
     → slice_get objects object ≡ Some shape → Laid layout object shape
 laid_of layout node objects footing object shape e =
     laid_by layout object shape (slice_get layout.objects object) refl
@@ -177,7 +179,8 @@ module _ (layout : Arrangement) (exposed : List ℕ) (scope : Scope) where
 
     binary_made : (op : _) (a b : Value) → IsOf layout exposed number a → IsOf layout exposed number b
         → Fits (Binary op) (a ∷ b ∷ []) number
-    binary_made op (Int a) (Int b) h k = pure_made number (bin op) (Int a ∷ Int b ∷ []) (binary_given layout exposed op a b)
+    binary_made op (Int a) (Int b) h k = pure_made number (bin op) (Int a ∷ Int b ∷ [])
+        (binary_given layout exposed op a b)
     binary_made op (Int a) Null h k = absurd k
     binary_made op (Int a) (Ptr object at offset) h k = absurd k
     binary_made op Null b h k = absurd h
@@ -195,7 +198,8 @@ module _ (layout : Arrangement) (exposed : List ℕ) (scope : Scope) where
     global_made cell Null v k h = absurd k
     global_made cell (Ptr object at offset) v k h = absurd k
 
-    pub computes_fits : {operation : Operation} {kinds : List Kind} {k : Kind} → Computes operation kinds k → (vs : List Value)
+    pub computes_fits : {operation : Operation} {kinds : List Kind} {k : Kind} → Computes operation kinds k
+        → (vs : List Value)
         → AreOf layout exposed kinds vs → Fits operation vs k
     computes_fits forward [] f = absurd f
     computes_fits forward (v ∷ []) f = absurd f.1
@@ -236,10 +240,12 @@ module _ (layout : Arrangement) (exposed : List ℕ) (scope : Scope) where
 
     -- a step on values of the kinds that it takes
     pub takes_fits : {operation : Operation} {kinds : List Kind} {k : Kind} → Takes scope operation kinds k
-        → Within exposed (exposed_by operation) → (vs : List Value) → AreOf layout exposed kinds vs → Fits operation vs k
+        → Within exposed (exposed_by operation) → (vs : List Value) → AreOf layout exposed kinds vs
+        → Fits operation vs k
     takes_fits (use_ h) w [] f = h
     takes_fits (use_ h) w (v ∷ vs) f = absurd f
-    takes_fits (element_ {o = o} {n = n} {plain = plain} {s = s} at count) w vs f = element_made o n plain s vs at count f
+    takes_fits (element_ {o = o} {n = n} {plain = plain} {s = s} at count) w vs f = element_made o n plain s vs at
+        count f
     takes_fits (address {o = o} {n = n} {s = s} at has) w vs f =
         address_made o n s vs at has (w o (0, omega arith, refl)) f
     takes_fits own_pointer w [] f = absurd f
@@ -248,7 +254,8 @@ module _ (layout : Arrangement) (exposed : List ℕ) (scope : Scope) where
     takes_fits own_pointer w (v ∷ u ∷ vs) f = absurd f.1
     takes_fits own_cell w [] f = absurd f
     takes_fits (own_cell {cell = cell}) w (v ∷ []) f =
-        pure_made (named true cell) glob (v ∷ []) (own_named_given layout exposed true false cell node v footing.node_within f.0)
+        pure_made (named true cell) glob (v ∷ [])
+        (own_named_given layout exposed true false cell node v footing.node_within f.0)
     takes_fits own_cell w (v ∷ u ∷ vs) f = absurd f.1
     takes_fits convert w [] f = absurd f
     takes_fits (convert {cell = cell}) w (v ∷ []) f =
@@ -264,7 +271,8 @@ module _ (layout : Arrangement) (exposed : List ℕ) (scope : Scope) where
     takes_fits same_ w (v ∷ u ∷ t ∷ vs) f = absurd f.1.1
     takes_fits differ w [] f = absurd f
     takes_fits differ w (v ∷ []) f = absurd f.1
-    takes_fits differ w (v ∷ u ∷ []) f = denied (computed layout node same_step (v ∷ u ∷ [])) (bit_is layout exposed (same_value v u))
+    takes_fits differ w (v ∷ u ∷ []) f = denied (computed layout node same_step (v ∷ u ∷ [])) (bit_is layout exposed
+        (same_value v u))
     takes_fits differ w (v ∷ u ∷ t ∷ vs) f = absurd f.1.1
     takes_fits is_null w [] f = absurd f
     takes_fits is_null w (v ∷ []) f = denied (computed layout node truth (v ∷ [])) (bit_is layout exposed (is_true v))

@@ -25,7 +25,8 @@ use Rattle.value_soundness.proofs.Values.{some_inv, some_intro}
 module _ (layout : Arrangement) (exposed : List ℕ) where
   -- ---- cells
 
-  zero_fits : (ty : Ty) (stars : List Star) → ty.stars ≡ stars → FitsType layout ty (zero_of stars) × NamesOnly exposed (zero_of stars)
+  zero_fits : (ty : Ty) (stars : List Star) → ty.stars ≡ stars
+      → FitsType layout ty (zero_of stars) × NamesOnly exposed (zero_of stars)
   zero_fits ty [] e = ((e, record { sfits = omega arith }), tt)
   zero_fits ty (s ∷ ss) e = (λ none. absurd (let no : [] ≡ s ∷ ss = sym none ∙ e in cc), tt)
 
@@ -34,7 +35,11 @@ module _ (layout : Arrangement) (exposed : List ℕ) where
   zero_lawful place None e h = absurd (cc)
   zero_lawful place (Some laid) e h =
       let z = zero_fits laid.shape.ty laid.shape.ty.stars refl in
-      record { fits = some_intro (λ o. FitsType layout o.shape.ty (zero_of laid.shape.ty.stars)) _ laid e z.0; names = z.1 }
+      record {
+        fits = some_intro (λ o. FitsType layout o.shape.ty
+            (zero_of laid.shape.ty.stars)) _ laid e z.0;
+        names = z.1;
+      }
 
   there : (objects : List LaidObject) (n : ℕ) → n < length objects → IsSome (slice_get objects n)
   there [] n h = absurd (let no : ⊥ = omega (arith, h) in no)
@@ -42,7 +47,8 @@ module _ (layout : Arrangement) (exposed : List ℕ) where
   there (o ∷ more) (suc n) h = there more n (omega (arith, h))
 
   pub start_lawful : (place : Place) → IsPlace layout place → IsLawfulAt layout exposed place (start layout place)
-  start_lawful place p = zero_lawful place (slice_get layout.objects place.object) refl (there layout.objects place.object p.object)
+  start_lawful place p = zero_lawful place (slice_get layout.objects place.object) refl
+      (there layout.objects place.object p.object)
 
   shown_by : (place : Place) (e : Effect) (b : Bool) (rest : Value) → (e.wrote && same_place e.place place) ≡ b
       → IsLawfulEffect layout exposed e → IsLawfulAt layout exposed place rest
@@ -53,7 +59,8 @@ module _ (layout : Arrangement) (exposed : List ℕ) where
   shown_by place e false rest is h k = k
 
   -- what a cell holds
-  pub held_lawful : (effs : List Effect) (place : Place) → All (IsLawfulEffect layout exposed) effs → IsPlace layout place
+  pub held_lawful : (effs : List Effect) (place : Place) → All (IsLawfulEffect layout exposed) effs
+      → IsPlace layout place
       → IsLawfulAt layout exposed place (held (start layout) place effs)
   held_lawful [] place h p = start_lawful place p
   held_lawful (e ∷ effs) place h p =
@@ -99,13 +106,15 @@ module _ (layout : Arrangement) (exposed : List ℕ) where
       }
 
   part_here : (node : ℕ) (done : List Request) (e : Effect) (number cell : ℕ) (wrote : Bool) (request : Request)
-      → IsOfRequest node done e → IsLawfulEffect layout exposed e → slice_get done number ≡ Some request → is_issued request ≡ true
+      → IsOfRequest node done e → IsLawfulEffect layout exposed e → slice_get done number ≡ Some request
+      → is_issued request ≡ true
       → IsPartOf e node number cell wrote → IsLawfulPart request cell wrote e.value
   part_here node done e number cell wrote request of lawful at issued p =
       let r = of p.node_is in
       let same : r.0 ≡ request =
       (let x : slice_get done number ≡ Some r.0 = subst (λ n. slice_get done n ≡ Some r.0) p.number_is r.1 in cc) in
-      let placed : part_place (transfer_of r.0) e.cell e.wrote ≡ Some e.place = r.2 (subst (λ r. is_issued r ≡ true) (sym same) issued) in
+      let placed : part_place (transfer_of r.0) e.cell e.wrote ≡ Some e.place = r.2 (subst (λ r. is_issued r ≡ true)
+      (sym same) issued) in
       record {
         place = e.place;
         is_part = subst (λ w. part_place (transfer_of request) cell w ≡ Some e.place) p.wrote_is
@@ -115,9 +124,12 @@ module _ (layout : Arrangement) (exposed : List ℕ) where
       }
 
   -- the value of a part of a request that was made is lawful at the part's place
-  pub part_lawful : (node : ℕ) (done : List Request) (effs : List Effect) (number cell : ℕ) (wrote : Bool) (request : Request) (value : Value)
-      → All (IsOfRequest node done) effs → All (IsLawfulEffect layout exposed) effs → slice_get done number ≡ Some request
-      → is_issued request ≡ true → part_value node number cell wrote effs ≡ Some value → IsLawfulPart request cell wrote value
+  pub part_lawful : (node : ℕ) (done : List Request) (effs : List Effect) (number cell : ℕ) (wrote : Bool)
+      (request : Request) (value : Value)
+      → All (IsOfRequest node done) effs → All (IsLawfulEffect layout exposed) effs
+      → slice_get done number ≡ Some request
+      → is_issued request ≡ true → part_value node number cell wrote effs ≡ Some value
+      → IsLawfulPart request cell wrote value
   part_lawful node done [] number cell wrote request value of lawful at issued h = absurd (cc)
   part_lawful node done (e ∷ effs) number cell wrote request value of lawful at issued h =
       by (is_part node number cell wrote e) refl h
@@ -150,17 +162,24 @@ module _ (layout : Arrangement) (exposed : List ℕ) where
   no_cell false place h = cc
 
   first_cell : (first : Place) (cell : ℕ) → cell < 1 → further cell first ≡ first
-  first_cell first zero h = λ i. record { object = first.object; node = first.node; offset = (let e : first.offset + 0 ≡ first.offset = omega arith in e) i }
+  first_cell first zero h = λ i. record {
+    object = first.object;
+    node = first.node;
+    offset =
+        (let e : first.offset + 0 ≡ first.offset = omega arith in e) i;
+  }
   first_cell first (suc n) h = absurd (let no : ⊥ = omega (arith, h) in no)
 
-  same_object : (p q : Place) (v : Value) → p.object ≡ q.object → IsLawfulAt layout exposed p v → IsLawfulAt layout exposed q v
+  same_object : (p q : Place) (v : Value) → p.object ≡ q.object → IsLawfulAt layout exposed p v
+      → IsLawfulAt layout exposed q v
   same_object p q v e h = record {
     fits = subst (λ object. IsSomeAnd (slice_get layout.objects object) (λ o. FitsType layout o.shape.ty v)) e h.fits;
     names = h.names;
   }
 
   -- a part's place is one of the layout
-  pub part_placed : (request : Request) (cell : ℕ) (wrote : Bool) (place : Place) → IsLawfulRequest layout exposed request
+  pub part_placed : (request : Request) (cell : ℕ) (wrote : Bool) (place : Place)
+      → IsLawfulRequest layout exposed request
       → is_issued request ≡ true → part_place (transfer_of request) cell wrote ≡ Some place → IsPlace layout place
   part_placed (Get first line) cell false place h issued e =
       let c = cell_of 1 cell first place (nat_lt cell 1) refl e in
@@ -198,31 +217,40 @@ module _ (layout : Arrangement) (exposed : List ℕ) where
       (subst (λ (p : Place). IsLawfulAt layout exposed p given) (sym (first_cell first cell c.below) ∙ c.is) h)
 
   -- cells of one type hold the same values
-  of_one_type : (from to : Place) (cells : ℕ) (p q : Place) (value : Value) → IsPlacedCopy layout from to cells → p.object ≡ from.object
+  of_one_type : (from to : Place) (cells : ℕ) (p q : Place) (value : Value) → IsPlacedCopy layout from to cells
+      → p.object ≡ from.object
       → q.object ≡ to.object → IsLawfulAt layout exposed p value → IsLawfulAt layout exposed q value
   of_one_type from to cells p q value h ep eq l = record {
-    fits = some_intro (λ o. FitsType layout o.shape.ty value) _ h.target (ap (λ object. slice_get layout.objects object) eq ∙ h.target_is)
+    fits = some_intro (λ o. FitsType layout o.shape.ty value) _ h.target (ap
+        (λ object. slice_get layout.objects object) eq ∙ h.target_is)
         (subst (λ (ty : Ty). FitsType layout ty value) h.one_type
-        (some_inv (λ o. FitsType layout o.shape.ty value) _ h.source (ap (λ object. slice_get layout.objects object) ep ∙ h.source_is) l.fits));
+        (some_inv (λ o. FitsType layout o.shape.ty value) _ h.source (ap
+        (λ object. slice_get layout.objects object) ep ∙ h.source_is) l.fits));
     names = l.names;
   }
 
   moved : (from to : Place) (cells : ℕ) (mode : _) (line : ℕ) (node : ℕ) (done : List Request) (effs : List Effect)
-      (number cell : ℕ) (place : Place) (value : Value) → IsPlacedCopy layout from to cells → All (IsOfRequest node done) effs
+      (number cell : ℕ) (place : Place) (value : Value) → IsPlacedCopy layout from to cells
+      → All (IsOfRequest node done) effs
       → All (IsLawfulEffect layout exposed) effs → slice_get done number ≡ Some (Copy from to cells mode line)
       → is_issued (Copy from to cells mode line) ≡ true
       → (if nat_lt cell cells then Some (further cell to) else None) ≡ Some place
       → part_value node number cell false effs ≡ Some value → IsLawfulAt layout exposed place value
   moved from to cells mode line node done effs number cell place value h of lawful at issued e w =
       let c = cell_of cells cell to place (nat_lt cell cells) refl e in
-      let part = part_lawful node done effs number cell false (Copy from to cells mode line) value of lawful at issued w in
+      let part = part_lawful node done effs number cell false
+      (Copy from to cells mode line) value of lawful at issued w in
       let d = cell_of cells cell from part.place (nat_lt cell cells) refl part.is_part in
-      of_one_type from to cells part.place place value h (ap (λ (p : Place). p.object) (sym d.is)) (ap (λ (p : Place). p.object) (sym c.is)) part.lawful
+      of_one_type from to cells part.place place value h (ap (λ (p : Place). p.object) (sym d.is)) (ap (λ
+      (p : Place). p.object) (sym c.is)) part.lawful
 
   -- what a part of a lawful request writes is lawful at its place
-  pub written_lawful : (node : ℕ) (done : List Request) (effs : List Effect) (number cell : ℕ) (request : Request) (place : Place) (value : Value)
-      → IsLawfulRequest layout exposed request → All (IsOfRequest node done) effs → All (IsLawfulEffect layout exposed) effs
-      → slice_get done number ≡ Some request → is_issued request ≡ true → part_place (transfer_of request) cell true ≡ Some place
+  pub written_lawful : (node : ℕ) (done : List Request) (effs : List Effect) (number cell : ℕ) (request : Request)
+      (place : Place) (value : Value)
+      → IsLawfulRequest layout exposed request → All (IsOfRequest node done) effs
+      → All (IsLawfulEffect layout exposed) effs
+      → slice_get done number ≡ Some request → is_issued request ≡ true
+      → part_place (transfer_of request) cell true ≡ Some place
       → written (transfer_of request) node number cell effs ≡ Some value → IsLawfulAt layout exposed place value
   written_lawful node done effs number cell (Get first line) place value h of lawful at issued e w =
       absurd (no_cell (nat_lt cell 1) place e)
@@ -244,12 +272,15 @@ module _ (layout : Arrangement) (exposed : List ℕ) where
   or_zero_of None value e = absurd (cc)
   or_zero_of (Some v) value e = cc
 
-  pub get_lawful : (node : ℕ) (done : List Request) (effs : List Effect) (number line : ℕ) (place : Place) (value : Value)
-      → All (IsOfRequest node done) effs → All (IsLawfulEffect layout exposed) effs → slice_get done number ≡ Some (Get place line)
+  pub get_lawful : (node : ℕ) (done : List Request) (effs : List Effect) (number line : ℕ) (place : Place)
+      (value : Value)
+      → All (IsOfRequest node done) effs → All (IsLawfulEffect layout exposed) effs
+      → slice_get done number ≡ Some (Get place line)
       → part_value node number 0 false effs ≡ Some value
       → IsLawfulAt layout exposed place (or_zero (part_value node number 0 false effs))
   get_lawful node done effs number line place value of lawful at e =
       let part = part_lawful node done effs number 0 false (Get place line) value of lawful at refl e in
       let c = cell_of 1 0 place part.place (nat_lt 0 1) refl part.is_part in
-      subst (λ (v : Value). IsLawfulAt layout exposed place v) (sym (or_zero_of (part_value node number 0 false effs) value e))
+      subst (λ (v : Value). IsLawfulAt layout exposed place v) (sym (or_zero_of
+      (part_value node number 0 false effs) value e))
       (same_object part.place place value (ap (λ (p : Place). p.object) (sym c.is)) part.lawful)

@@ -1,5 +1,5 @@
--- A small source, typed and laid out, whose run is computed: `int x; int *p; void splitc_main() { int *q; int n; p = &x; q = p;
--- n := *q; sync(); }`.
+-- A small source, typed and laid out, whose run is computed: `int x; int *p; void splitc_main() { int *q; int n; p =
+-- &x; q = p; n := *q; sync(); }`.
 use Rattle.std.proofs.Common.{◌≡◌, ℕ, pos, true, false, List, [], ◌∷◌, refl, arith}
 use Rattle.std.specs.Prelude.{codes}
 use Rattle.std.specs.List.{Contains}
@@ -54,7 +54,8 @@ abbrev body : Does
 body =
     then_ (act (acts.Clear 0 true) none 7)
     (then_ (act (acts.Clear 1 false) none 7)
-    (then_ (act acts.Drop (argument (step does.Write (argument own_p (argument (step (does.Address 0 0) none 7) none)) 7) none) 7)
+    (then_ (act acts.Drop (argument (step does.Write (argument own_p (argument (step
+    (does.Address 0 0) none 7) none)) 7) none) 7)
     (then_ (act (acts.Fill 0) (argument own_p none) 7)
     (then_ (act (acts.Get 1) (argument (one does.Own (step (does.Use 0) none 7)) none) 7)
     (act acts.Sync none 7)))))
@@ -163,7 +164,8 @@ abbrev cell_of : (object node : ℕ) → Place
 cell_of object node = record { object = object; node = node; offset = 0 }
 
 -- what node 1 asks under answers that fit, and how it ends
-runs_whole : run_of (meaning (record { layout = layout; node = 1; program = program }) 10) (Shown (Ptr 0 0 0) ∷ Landed (Int (pos 5) ∷ []) ∷ [])
+runs_whole : run_of (meaning (record { layout = layout; node = 1; program = program }) 10) (Shown
+    (Ptr 0 0 0) ∷ Landed (Int (pos 5) ∷ []) ∷ [])
     ≡ record {
       events = Write (cell_of 1 1) (Ptr 0 0 0) 7 ∷ Read (cell_of 1 1) 7 ∷ Get (cell_of 0 1) 7 ∷ Sync 7 ∷ [];
       text = [];

@@ -19,7 +19,8 @@ use Rattle.value_soundness.proofs.Promises.{then_gets}
 
 -- ---- lists
 
-pub get_front : {X : Type 0} (xs ys : List X) (n : ℕ) (x : X) → slice_get xs n ≡ Some x → slice_get (xs ++ ys) n ≡ Some x
+pub get_front : {X : Type 0} (xs ys : List X) (n : ℕ) (x : X) → slice_get xs n ≡ Some x
+    → slice_get (xs ++ ys) n ≡ Some x
 get_front [] ys n x e = absurd (cc)
 get_front (y ∷ xs) ys zero x e = e
 get_front (y ∷ xs) ys (suc n) x e = get_front xs ys n x e
@@ -40,7 +41,8 @@ pub record Behind (X : Type 0) (ys : List X) (x : X) : Type 0 where
   pub tail : List X
   pub is : ys ≡ x ∷ tail
 
-pub get_next : {X : Type 0} (xs ys : List X) (n : ℕ) (x : X) → n ≡ length xs → slice_get (xs ++ ys) n ≡ Some x → Behind X ys x
+pub get_next : {X : Type 0} (xs ys : List X) (n : ℕ) (x : X) → n ≡ length xs → slice_get (xs ++ ys) n ≡ Some x
+    → Behind X ys x
 get_next [] [] n x e h = absurd (cc)
 get_next [] (y ∷ ys) zero x e h = record { tail = ys; is = let same : y ≡ x = cc in ap (λ z. z ∷ ys) same }
 get_next [] (y ∷ ys) (suc n) x e h = absurd (let no : ⊥ = omega (arith, e) in no)
@@ -110,7 +112,8 @@ gets_push n (AllStoreSync line) h at issued = absurd (cc)
 
 -- ---- what they got
 
-among : (requests : List Request) (n : ℕ) (ns : List ℕ) (request : Request) (b : Bool) → slice_get requests n ≡ Some request
+among : (requests : List Request) (n : ℕ) (ns : List ℕ) (request : Request) (b : Bool)
+    → slice_get requests n ≡ Some request
     → is_get request ≡ b
     → gets_among requests (n ∷ ns) ≡ (if b then n ∷ gets_among requests ns else gets_among requests ns)
 among requests n ns request b e is = rw (e, is) refl
@@ -129,7 +132,8 @@ module _ (layout : Arrangement) (exposed : List ℕ) where
   lawful_names (p ∷ ps) (v ∷ vs) h = All-cons (NamesOnly exposed) v vs h.0.names (lawful_names ps vs h.1)
 
   -- what the gets got is lawful at their places, where it is so of each
-  pub got_lawful : (node : ℕ) (effs : List Effect) (done later : List Request) {ns : List ℕ} {ps : List Place} → GetsAre done ns ps
+  pub got_lawful : (node : ℕ) (effs : List Effect) (done later : List Request) {ns : List ℕ} {ps : List Place}
+      → GetsAre done ns ps
       → ((n line : ℕ) (place : Place) → slice_get done n ≡ Some (Get place line)
       → IsLawfulAt layout exposed place (or_zero (part_value node n 0 false effs)))
       → AreLawful layout exposed ps (got node effs (gets_among (done ++ later) ns))

@@ -1,5 +1,5 @@
--- Legal pasts of typed sources are lawful, by induction over the past: what cells hold is lawful since each written value was,
--- so each answer is, and so each request of the node that was answered.
+-- Legal pasts of typed sources are lawful, by induction over the past: what cells hold is lawful since each written
+-- value was, so each answer is, and so each request of the node that was answered.
 use Rattle.std.proofs.Common.{◌≡◌, ◌≢◌, ℕ, ◌+◌, ◌<◌, ◌≤◌, inl, inr, Option, Some, None, Bool, true, false, if◌then◌else◌, List, [], ◌∷◌, ◌++◌, length, slice_get, eq-eqb, refl, sym, subst, arith}
 use Rattle.std.specs.Prelude.{nat_lt, IsSome}
 use Rattle.std.specs.List.{All}
@@ -61,17 +61,23 @@ module _ (processes : Processes) (past : List SourceEvent) where
   now node event = view_of processes node (event ∷ past)
 
   read_own : (o number : ℕ) (place : Place) (value : Value)
-      → now o (Do o number false place value) ≡ record (seen o) { given = (seen o).given ++ Shown value ∷ []; made = (seen o).made + 1 }
+      → now o (Do o number false place value) ≡ record (seen o) {
+        given = (seen o).given ++ Shown value ∷ [];
+        made =
+            (seen o).made + 1;
+      }
   read_own o number place value = rw (eq-eqb o o refl) refl
 
-  read_other : (o number node : ℕ) (place : Place) (value : Value) → o ≢ node → now node (Do o number false place value) ≡ seen node
+  read_other : (o number node : ℕ) (place : Place) (value : Value) → o ≢ node
+      → now node (Do o number false place value) ≡ seen node
   read_other o number node place value apart = rw (ne_eqb o node apart) refl
 
   write_own : (o number : ℕ) (place : Place) (value : Value)
       → now o (Do o number true place value) ≡ record (seen o) { made = (seen o).made + 1 }
   write_own o number place value = rw (eq-eqb o o refl) refl
 
-  write_other : (o number node : ℕ) (place : Place) (value : Value) → o ≢ node → now node (Do o number true place value) ≡ seen node
+  write_other : (o number node : ℕ) (place : Place) (value : Value) → o ≢ node
+      → now node (Do o number true place value) ≡ seen node
   write_other o number node place value apart = rw (ne_eqb o node apart) refl
 
   issue_own : (o number : ℕ) → now o (Issue o number)
@@ -83,7 +89,8 @@ module _ (processes : Processes) (past : List SourceEvent) where
 
   abbrev landing : ℕ → List Value
   landing node =
-      got node (effects past) (gets_among (run_of (processes.starts node) (answers processes node past)).events (issued_since node past))
+      got node (effects past) (gets_among (run_of (processes.starts node) (answers processes node past)).events
+      (issued_since node past))
 
   sync_own : (o number : ℕ) → now o (Sync o number)
       ≡ record (seen o) { given = (seen o).given ++ Landed (landing o) ∷ []; made = (seen o).made + 1; issued = [] }
@@ -150,7 +157,8 @@ module _ (layout : Arrangement) (program : Program) (budget : ℕ) (source : IsL
       runs layout exposed (processes.starts node) [] (answers processes node past)
       (promises layout program node budget source below) s.names
 
-  request_lawful : (past : List SourceEvent) (node number : ℕ) (request : Request) → node < layout.nodes → StandsAfter node past
+  request_lawful : (past : List SourceEvent) (node number : ℕ) (request : Request) → node < layout.nodes
+      → StandsAfter node past
       → slice_get (run_so_far processes node past).events number ≡ Some request → IsLawfulRequest layout exposed request
   request_lawful past node number request below s e =
       let requests = (run_so_far processes node past).events in
@@ -167,7 +175,8 @@ module _ (layout : Arrangement) (program : Program) (budget : ℕ) (source : IsL
         (view_of processes node (event ∷ past)) es) (sym none) (nodes node below);
   }
 
-  as_seen : (node : ℕ) (v w : View) (effs : List Effect) → v ≡ w → Stands layout exposed node (processes.starts node) w effs
+  as_seen : (node : ℕ) (v w : View) (effs : List Effect) → v ≡ w
+      → Stands layout exposed node (processes.starts node) w effs
       → Stands layout exposed node (processes.starts node) v effs
   as_seen node v w effs e s = subst (λ (v : View). Stands layout exposed node (processes.starts node) v effs) (sym e) s
 
@@ -188,17 +197,22 @@ module _ (layout : Arrangement) (program : Program) (budget : ℕ) (source : IsL
       let s = kept.nodes o below in
       let placed : IsPlace layout place = request_lawful past o number (Read place h.line) below s h.is_next.next in
       let lawful : IsLawfulAt layout exposed place value =
-      subst (λ (v : Value). IsLawfulAt layout exposed place v) (sym h.shows) (held_lawful layout exposed (effects past) place kept.cells placed) in
+      subst (λ (v : Value). IsLawfulAt layout exposed place v) (sym h.shows) (held_lawful layout exposed
+      (effects past) place kept.cells placed) in
       let e : Effect = record { node = o; number = number; cell = 0; wrote = false; place = place; value = value } in
       record {
-        cells = All-cons (IsLawfulEffect layout exposed) e (effects past) (record { placed = placed; lawful = lawful }) kept.cells;
+        cells = All-cons (IsLawfulEffect layout exposed) e (effects past)
+            (record { placed = placed; lawful = lawful }) kept.cells;
         nodes = each_node o (λ node. node < layout.nodes → StandsAfter node (Do o number false place value ∷ past))
             (λ own. as_seen o _ _ (e ∷ effects past) (read_own processes past o number place value)
-            (stands_read layout exposed o (processes.starts o) (view_of processes o past) (effects past) e s place h.line value
+            (stands_read layout exposed o (processes.starts o) (view_of processes o past)
+            (effects past) e s place h.line value
             (next_at past o number (Read place h.line) h.is_next) h.is_next.goes_on.released
             ((exact layout place value).1 lawful.fits) lawful.names h.is_next.numbered))
-            (λ node apart within. as_seen node _ _ (e ∷ effects past) (read_other processes past o number node place value apart)
-            (stands_other layout exposed node (processes.starts node) (view_of processes node past) (effects past) e apart
+            (λ node apart within. as_seen node _ _ (e ∷ effects past)
+            (read_other processes past o number node place value apart)
+            (stands_other layout exposed node (processes.starts node) (view_of processes node past)
+            (effects past) e apart
             (kept.nodes node within)));
       }
 
@@ -210,13 +224,17 @@ module _ (layout : Arrangement) (program : Program) (budget : ℕ) (source : IsL
       let lawful = request_lawful past o number (Write place value h.line) below s h.is_next.next in
       let e : Effect = record { node = o; number = number; cell = 0; wrote = true; place = place; value = value } in
       record {
-        cells = All-cons (IsLawfulEffect layout exposed) e (effects past) (record { placed = lawful.0; lawful = lawful.1 }) kept.cells;
+        cells = All-cons (IsLawfulEffect layout exposed) e (effects past)
+            (record { placed = lawful.0; lawful = lawful.1 }) kept.cells;
         nodes = each_node o (λ node. node < layout.nodes → StandsAfter node (Do o number true place value ∷ past))
             (λ own. as_seen o _ _ (e ∷ effects past) (write_own processes past o number place value)
-            (stands_write layout exposed o (processes.starts o) (view_of processes o past) (effects past) e s place value h.line
+            (stands_write layout exposed o (processes.starts o) (view_of processes o past)
+            (effects past) e s place value h.line
             (next_at past o number (Write place value h.line) h.is_next) h.is_next.goes_on.released h.is_next.numbered))
-            (λ node apart within. as_seen node _ _ (e ∷ effects past) (write_other processes past o number node place value apart)
-            (stands_other layout exposed node (processes.starts node) (view_of processes node past) (effects past) e apart
+            (λ node apart within. as_seen node _ _ (e ∷ effects past)
+            (write_other processes past o number node place value apart)
+            (stands_other layout exposed node (processes.starts node) (view_of processes node past)
+            (effects past) e apart
             (kept.nodes node within)));
       }
 
@@ -239,14 +257,16 @@ module _ (layout : Arrangement) (program : Program) (budget : ℕ) (source : IsL
     pub below : number < made node past
     pub at : slice_get (run_so_far processes node past).events number ≡ Some request
 
-  was_made : (past : List SourceEvent) (node number : ℕ) (request : Request) (b : Bool) → nat_lt number (made node past) ≡ b
+  was_made : (past : List SourceEvent) (node number : ℕ) (request : Request) (b : Bool)
+      → nat_lt number (made node past) ≡ b
       → (if b then slice_get (run_so_far processes node past).events number else None) ≡ Some request
       → WasMade past node number request
   was_made past node number request true e h = record { below = ltb-true number (made node past) e; at = h }
   was_made past node number request false e h = absurd (cc)
 
   -- it is among what the node has made
-  in_done : (past : List SourceEvent) (node number : ℕ) (request : Request) (s : StandsAfter node past) → WasMade past node number request
+  in_done : (past : List SourceEvent) (node number : ℕ) (request : Request) (s : StandsAfter node past)
+      → WasMade past node number request
       → slice_get s.done number ≡ Some request
   in_done past node number request s w =
       let few = w.below in let many = s.made_is in
@@ -261,7 +281,8 @@ module _ (layout : Arrangement) (program : Program) (budget : ℕ) (source : IsL
       subst (λ (v : Value). IsLawfulAt layout exposed place v) (sym (h.reads refl))
       (held_lawful layout exposed (effects past) place kept.cells placed)
   effect_lawful past o number cell true place value h kept s at lawful placed =
-      written_lawful layout exposed o s.done (effects past) number cell h.request place value lawful s.parts kept.cells at
+      written_lawful layout exposed o s.done
+      (effects past) number cell h.request place value lawful s.parts kept.cells at
       h.issued h.its_place (h.writes refl)
 
   effect_kept : (past : List SourceEvent) (o number cell : ℕ) (wrote : Bool) (place : Place) (value : Value)
@@ -276,11 +297,17 @@ module _ (layout : Arrangement) (program : Program) (budget : ℕ) (source : IsL
       let e : Effect = record { node = o; number = number; cell = cell; wrote = wrote; place = place; value = value } in
       record {
         cells = All-cons (IsLawfulEffect layout exposed) e (effects past)
-            (record { placed = placed; lawful = effect_lawful past o number cell wrote place value h kept s at asked placed }) kept.cells;
-        nodes = each_node o (λ node. node < layout.nodes → StandsAfter node (Part o number cell wrote place value ∷ past))
+            (record {
+              placed = placed;
+              lawful = effect_lawful past o number cell wrote place value h kept s at asked
+                  placed;
+            }) kept.cells;
+        nodes = each_node o (λ node. node < layout.nodes
+            → StandsAfter node (Part o number cell wrote place value ∷ past))
             (λ own. stands_effect layout exposed o (processes.starts o) (view_of processes o past) (effects past) e s
             (λ own. (h.request, at, λ issued. h.its_place)))
-            (λ node apart within. stands_other layout exposed node (processes.starts node) (view_of processes node past) (effects past) e apart
+            (λ node apart within. stands_other layout exposed node (processes.starts node)
+            (view_of processes node past) (effects past) e apart
             (kept.nodes node within));
       }
 
@@ -291,15 +318,18 @@ module _ (layout : Arrangement) (program : Program) (budget : ℕ) (source : IsL
   some_of (Some value) h = (value, refl)
 
   got_there : (past : List SourceEvent) (node : ℕ) (s : StandsAfter node past) → AllDone processes is_split node past
-      → All (IsLawfulEffect layout exposed) (effects past) → (n line : ℕ) (place : Place) → slice_get s.done n ≡ Some (Get place line)
+      → All (IsLawfulEffect layout exposed) (effects past) → (n line : ℕ) (place : Place)
+      → slice_get s.done n ≡ Some (Get place line)
       → IsLawfulAt layout exposed place (or_zero (part_value node n 0 false (effects past)))
   got_there past node s done cells n line place at =
       let many = s.made_is in
       let few : n < length s.done = slice_get_within s.done n (Get place line) at in
       let below : n < made node past = omega (arith, few, many) in
       let here : slice_get (run_so_far processes node past).events n ≡ Some (Get place line) =
-      subst (λ (rs : List Request). slice_get rs n ≡ Some (Get place line)) (sym s.run_is) (get_front s.done s.later n (Get place line) at) in
-      let asked : request_at processes node n past ≡ Some (Get place line) = rw (lt-ltb n (made node past) below) here in
+      subst (λ (rs : List Request). slice_get rs n ≡ Some (Get place line)) (sym s.run_is)
+      (get_front s.done s.later n (Get place line) at) in
+      let asked : request_at processes node n past ≡ Some (Get place line) = rw (lt-ltb n
+      (made node past) below) here in
       let v = some_of (part_value node n 0 false (effects past)) (done n (Get place line) asked refl 0 false refl) in
       get_lawful layout exposed node s.done (effects past) n line place v.0 s.parts cells at v.1
 
@@ -308,14 +338,16 @@ module _ (layout : Arrangement) (program : Program) (budget : ℕ) (source : IsL
   sync_kept past o number h kept =
       let s = kept.nodes o h.is_next.goes_on.node_within in
       let values : AreLawful layout exposed (gets_after [] s.done) (landing processes past o) =
-      subst (λ (rs : List Request). AreLawful layout exposed (gets_after [] s.done) (got o (effects past) (gets_among rs (issued_since o past))))
+      subst (λ (rs : List Request). AreLawful layout exposed (gets_after [] s.done) (got o (effects past)
+      (gets_among rs (issued_since o past))))
       (sym s.run_is)
       (got_lawful layout exposed o (effects past) s.done s.later s.gets (got_there past o s h.all_done kept.cells)) in
       still past (Sync o number) refl kept
       (each_node o (λ node. node < layout.nodes → Stands layout exposed node (processes.starts node)
       (view_of processes node (Sync o number ∷ past)) (effects past))
       (λ own. as_seen o _ _ (effects past) (sync_own processes past o number)
-      (stands_sync layout exposed o (processes.starts o) (view_of processes o past) (effects past) s h.line (landing processes past o)
+      (stands_sync layout exposed o (processes.starts o) (view_of processes o past) (effects past) s h.line
+      (landing processes past o)
       (next_at past o number (SyncRequest h.line) h.is_next) h.is_next.goes_on.released
       (lawful_fit layout exposed (gets_after [] s.done) (landing processes past o) values)
       (lawful_names layout exposed (gets_after [] s.done) (landing processes past o) values)))
@@ -336,8 +368,10 @@ module _ (layout : Arrangement) (program : Program) (budget : ℕ) (source : IsL
       (each_node o (λ node. node < layout.nodes → Stands layout exposed node (processes.starts node)
       (view_of processes node (Arrive o number stores ∷ past)) (effects past))
       (λ own. as_seen o _ _ (effects past) (arrive_own processes past o number stores)
-      (stands_arrive layout exposed o (processes.starts o) (view_of processes o past) (effects past) s (barrier_of stores h.line)
-      (next_at past o number (barrier_of stores h.line) h.is_next) (of_barrier stores h.line) h.is_next.goes_on.released))
+      (stands_arrive layout exposed o (processes.starts o) (view_of processes o past) (effects past) s
+      (barrier_of stores h.line)
+      (next_at past o number (barrier_of stores h.line) h.is_next)
+      (of_barrier stores h.line) h.is_next.goes_on.released))
       (λ node apart within. as_seen node _ _ (effects past) (arrive_other processes past o number node stores apart)
       (kept.nodes node within)))
 
@@ -352,7 +386,8 @@ module _ (layout : Arrangement) (program : Program) (budget : ℕ) (source : IsL
       let running = h.none_ended node below in
       let at : arrivals node past ≡ number = exactly node s running arrived is in
       as_seen node _ _ (effects past) (release_at processes past number node at)
-      (stands_release layout exposed node (processes.starts node) (view_of processes node past) (effects past) s running arrived)))
+      (stands_release layout exposed node (processes.starts node) (view_of processes node past)
+      (effects past) s running arrived)))
     where
       exactly : (node : ℕ) → StandsAfter node past → ended node past ≡ None → releases past + 1 ≤ arrivals node past
           → number ≡ releases past + 1 → arrivals node past ≡ number
@@ -363,34 +398,40 @@ module _ (layout : Arrangement) (program : Program) (budget : ℕ) (source : IsL
 
   -- ---- ends
 
-  waiting_kept : (past : List SourceEvent) (o : ℕ) → WaitingAllowed processes past o → IsKept past → IsKept (Over o Waiting ∷ past)
+  waiting_kept : (past : List SourceEvent) (o : ℕ) → WaitingAllowed processes past o → IsKept past
+      → IsKept (Over o Waiting ∷ past)
   waiting_kept past o h kept =
       let s = kept.nodes o h.node_within in
       still past (Over o Waiting) refl kept
       (each_node o (λ node. node < layout.nodes → Stands layout exposed node (processes.starts node)
       (view_of processes node (Over o Waiting ∷ past)) (effects past))
       (λ own. as_seen o _ _ (effects past) (waiting_own processes past o)
-      (stands_waiting layout exposed o (processes.starts o) (view_of processes o past) (effects past) s h.running h.at_barrier))
+      (stands_waiting layout exposed o (processes.starts o) (view_of processes o past)
+      (effects past) s h.running h.at_barrier))
       (λ node apart within. as_seen node _ _ (effects past) (waiting_other processes past o node apart)
       (kept.nodes node within)))
 
-  end_kept : (past : List SourceEvent) (o : ℕ) (end : End) → IsOtherEnd processes past end → IsKept past → IsKept (Over o end ∷ past)
+  end_kept : (past : List SourceEvent) (o : ℕ) (end : End) → IsOtherEnd processes past end → IsKept past
+      → IsKept (Over o end ∷ past)
   end_kept past o end is kept =
       still past (Over o end) refl kept
       (each_node o (λ node. node < layout.nodes → Stands layout exposed node (processes.starts node)
       (view_of processes node (Over o end ∷ past)) (effects past))
       (λ own. as_seen o _ _ (effects past) (end_own processes past o end is)
-      (stands_end layout exposed o (processes.starts o) (view_of processes o past) (effects past) end (kept.nodes o own)))
+      (stands_end layout exposed o (processes.starts o) (view_of processes o past) (effects past) end
+      (kept.nodes o own)))
       (λ node apart within. as_seen node _ _ (effects past) (end_other processes past o node end is apart)
       (kept.nodes node within)))
 
   -- ---- all pasts
 
-  event_kept : (event : SourceEvent) (past : List SourceEvent) → Allowed processes past event → IsKept past → IsKept (event ∷ past)
+  event_kept : (event : SourceEvent) (past : List SourceEvent) → Allowed processes past event → IsKept past
+      → IsKept (event ∷ past)
   event_kept (Do o number false place value) past h kept = read_kept past o number place value h kept
   event_kept (Do o number true place value) past h kept = write_kept past o number place value h kept
   event_kept (Issue o number) past h kept = issue_kept past o number h kept
-  event_kept (Part o number cell wrote place value) past h kept = effect_kept past o number cell wrote place value h kept
+  event_kept (Part o number cell wrote place value) past h kept = effect_kept past o number cell wrote place value h
+      kept
   event_kept (Sync o number) past h kept = sync_kept past o number h kept
   event_kept (Arrive o number stores) past h kept = arrive_kept past o number stores h kept
   event_kept (Release number) past h kept = release_kept past number h kept

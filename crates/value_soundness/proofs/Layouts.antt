@@ -1,5 +1,5 @@
--- What is known of a layout's objects: their cells are not void, they have as many bounds as dimensions, and the cell at a
--- flat index is one of the layout.
+-- What is known of a layout's objects: their cells are not void, they have as many bounds as dimensions, and the cell
+-- at a flat index is one of the layout.
 use Rattle.std.proofs.Common.{◌≡◌, ℕ, suc, ◌+◌, ◌^◌, ◌<◌, ◌≤◌, Result, Ok, Err, Some, None, Bool, true, false, List, [], ◌∷◌, ◌++◌, length, map, slice_get, refl, sym, ap, ◌∙◌, subst, arith}
 use Rattle.std.specs.Prelude.{nat_lt, if◌then◌else◌}
 use Rattle.std.specs.Result.{result_map_both}
@@ -20,7 +20,8 @@ pub lawful_shape : (layout : Arrangement) → IsLayout layout → (k : ℕ) (o :
     → slice_get layout.objects k ≡ Some o → IsLawfulShape o.shape
 lawful_shape layout laid k o e =
     let shapes : List Shape = map (λ o. o.shape) layout.objects in
-    let at : slice_get shapes k ≡ Some o.shape = slice_get-map (λ (o : LaidObject). o.shape) layout.objects k ∙ (rw e refl) in
+    let at : slice_get shapes k ≡ Some o.shape = slice_get-map (λ (o : LaidObject). o.shape) layout.objects k ∙
+    (rw e refl) in
     subst IsLawfulShape (get_or_from_slice_get shapes k o.shape o.shape at)
     (laid.lawful k o.shape (slice_get_within shapes k o.shape at))
 

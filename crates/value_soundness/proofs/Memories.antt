@@ -50,7 +50,8 @@ module _ (layout : Arrangement) (exposed : List ℕ) where
   pub data IsAwaited (s : Spot) : List Typing → List (List Slot) → Type 0 where
     here : {t : Typing} {ts : List Typing} {f : List Slot} {fs : List (List Slot)} → s.level ≡ length fs → IsLocalOf t s
         → slice_index_or f s.local blank ≡ awaits → IsAwaited s (t ∷ ts) (f ∷ fs)
-    there : {t : Typing} {ts : List Typing} {f : List Slot} {fs : List (List Slot)} → s.level < length fs → IsAwaited s ts fs
+    there : {t : Typing} {ts : List Typing} {f : List Slot} {fs : List (List Slot)} → s.level < length fs
+        → IsAwaited s ts fs
         → IsAwaited s (t ∷ ts) (f ∷ fs)
 
   abbrev pub AreAwaited : List Typing → List (List Slot) → List Spot → Type 0
@@ -69,7 +70,8 @@ module _ (layout : Arrangement) (exposed : List ℕ) where
   frame_local t ts [] x k h i b = absurd h
   frame_local t ts (f ∷ fs) x k h i b = h.0.fits x k i b
 
-  pub local_fits : (t : Typing) (ts : List Typing) (gets : List Place) (m : Memory) (x : ℕ) (k : Kind) → Good (t ∷ ts) gets m
+  pub local_fits : (t : Typing) (ts : List Typing) (gets : List Place) (m : Memory) (x : ℕ) (k : Kind)
+      → Good (t ∷ ts) gets m
       → slice_get t.locals x ≡ Some k → Contains t.begun x → SlotFits k (slot m x)
   local_fits t ts gets m x k g i b = frame_local t ts m.frames x k g.frames i b
 
@@ -80,7 +82,8 @@ module _ (layout : Arrangement) (exposed : List ℕ) where
     pub locals : new.locals ≡ old.locals
     pub begun : (y : ℕ) → Contains new.begun y → (y ≡ x) ⊎ Contains old.begun y
 
-  same_kind : (locals : List Kind) (x : ℕ) (j k : Kind) → slice_get locals x ≡ Some j → slice_get locals x ≡ Some k → j ≡ k
+  same_kind : (locals : List Kind) (x : ℕ) (j k : Kind) → slice_get locals x ≡ Some j → slice_get locals x ≡ Some k
+      → j ≡ k
   same_kind locals x j k e f = cc
 
   at_local : (locals : List Kind) (f : List Slot) (x y : ℕ) (j k : Kind) (s : Slot) → length f ≡ length locals
@@ -124,7 +127,8 @@ module _ (layout : Arrangement) (exposed : List ℕ) where
   still_awaits : (f : List Slot) (x y : ℕ) (s : Slot) (old : Value) → slice_index_or f x blank ≡ has old
       → slice_index_or f y blank ≡ awaits → slice_index_or (slice_set f x s) y blank ≡ awaits
   still_awaits f x y s old e h =
-      get_or-set_other f x y s blank (λ same. has_awaits old (sym e ∙ (ap (λ z. slice_index_or f z blank) (sym same) ∙ h))) ∙ h
+      get_or-set_other f x y s blank (λ same. has_awaits old (sym e ∙ (ap (λ z. slice_index_or f z blank)
+      (sym same) ∙ h))) ∙ h
 
   awaited_set : (t u : Typing) (ts : List Typing) (fs : List (List Slot)) (x : ℕ) (s : Slot) (old : Value) (spot : Spot)
       → u.locals ≡ t.locals → FramesFit (t ∷ ts) fs → slice_index_or (top fs) x blank ≡ has old
@@ -134,7 +138,8 @@ module _ (layout : Arrangement) (exposed : List ℕ) where
       here level (in_typing t u spot same local) (still_awaits f x spot.local s old e empty)
   awaited_set t u ts (f ∷ fs) x s old spot same h e (there level i) = there level i
 
-  all_awaited_set : (t u : Typing) (ts : List Typing) (fs : List (List Slot)) (x : ℕ) (s : Slot) (old : Value) (ss : List Spot)
+  all_awaited_set : (t u : Typing) (ts : List Typing) (fs : List (List Slot)) (x : ℕ) (s : Slot) (old : Value)
+      (ss : List Spot)
       → u.locals ≡ t.locals → FramesFit (t ∷ ts) fs → slice_index_or (top fs) x blank ≡ has old
       → AreAwaited (t ∷ ts) fs ss → AreAwaited (u ∷ ts) (with_top (λ frame. slice_set frame x s) fs) ss
   all_awaited_set t u ts fs x s old [] same h e i = tt
@@ -142,7 +147,8 @@ module _ (layout : Arrangement) (exposed : List ℕ) where
       (awaited_set t u ts fs x s old spot same h e i.0, all_awaited_set t u ts fs x s old ss same h e i.1)
 
   pub good_set : (t u : Typing) (ts : List Typing) (gets : List Place) (m : Memory) (x : ℕ) (k : Kind) (v old : Value)
-      → Grows t u x → Good (t ∷ ts) gets m → slice_get t.locals x ≡ Some k → IsOf layout exposed k v → slot m x ≡ has old
+      → Grows t u x → Good (t ∷ ts) gets m → slice_get t.locals x ≡ Some k → IsOf layout exposed k v
+      → slot m x ≡ has old
       → Good (u ∷ ts) gets (with_slot m x (has v))
   good_set t u ts gets m x k v old grows g i fit e = record {
     frames = frames_set t u ts m.frames x k (has v) grows g.frames i fit;
@@ -161,7 +167,8 @@ module _ (layout : Arrangement) (exposed : List ℕ) where
       let within : s.local < length t.locals = slice_get_within t.locals s.local (kind_of i.cell) i.local in
       here e i (get_or-set_at f s.local s.local awaits blank refl (omega (arith, sized, within)))
 
-  spots_add : (ts : List Typing) (fs : List (List Slot)) (ss : List Spot) (s : Spot) → AreAwaited ts fs ss → IsAwaited s ts fs
+  spots_add : (ts : List Typing) (fs : List (List Slot)) (ss : List Spot) (s : Spot) → AreAwaited ts fs ss
+      → IsAwaited s ts fs
       → AreAwaited ts fs (ss ++ s ∷ [])
   spots_add ts fs [] s h i = (i, tt)
   spots_add ts fs (r ∷ ss) s h i = (h.0, spots_add ts fs ss s h.1 i)
@@ -169,8 +176,10 @@ module _ (layout : Arrangement) (exposed : List ℕ) where
   grows_itself : (t : Typing) (x : ℕ) → Grows t t x
   grows_itself t x = record { locals = refl; begun = λ y b. inr b }
 
-  pub good_get : (t : Typing) (ts : List Typing) (gets : List Place) (m : Memory) (x : ℕ) (cell : List Star) (place : Place) (old : Value)
-      → Good (t ∷ ts) gets m → IsCell layout cell place → slice_get t.locals x ≡ Some (kind_of cell) → slot m x ≡ has old
+  pub good_get : (t : Typing) (ts : List Typing) (gets : List Place) (m : Memory) (x : ℕ) (cell : List Star)
+      (place : Place) (old : Value)
+      → Good (t ∷ ts) gets m → IsCell layout cell place → slice_get t.locals x ≡ Some (kind_of cell)
+      → slot m x ≡ has old
       → Good (t ∷ ts) (gets ++ place ∷ []) (with_get m x place)
   good_get t ts gets m x cell place old g c i e =
       let s : Spot = record { level = length (below m.frames); local = x; place = place } in
@@ -200,7 +209,8 @@ module _ (layout : Arrangement) (exposed : List ℕ) where
   same_length (t ∷ ts) [] h = absurd h
   same_length (t ∷ ts) (f ∷ fs) h = ap suc (same_length ts fs h.1)
 
-  typed_spot : (ts : List Typing) (fs : List (List Slot)) (s : Spot) → FramesFit ts fs → IsAwaited s ts fs → IsTypedSpot s ts
+  typed_spot : (ts : List Typing) (fs : List (List Slot)) (s : Spot) → FramesFit ts fs → IsAwaited s ts fs
+      → IsTypedSpot s ts
   typed_spot [] [] s h i = elim i [ ]
   typed_spot [] (f ∷ fs) s h i = absurd h
   typed_spot (t ∷ ts) [] s h i = absurd h
@@ -301,12 +311,14 @@ module _ (layout : Arrangement) (exposed : List ℕ) where
   below_level (t ∷ ts) (f ∷ fs) s (here level local empty) = omega (arith, level)
   below_level (t ∷ ts) (f ∷ fs) s (there level i) = omega (arith, level)
 
-  spots_push : (t : Typing) (ts : List Typing) (f : List Slot) (fs : List (List Slot)) (ss : List Spot) → AreAwaited ts fs ss
+  spots_push : (t : Typing) (ts : List Typing) (f : List Slot) (fs : List (List Slot)) (ss : List Spot)
+      → AreAwaited ts fs ss
       → AreAwaited (t ∷ ts) (f ∷ fs) ss
   spots_push t ts f fs [] h = tt
   spots_push t ts f fs (s ∷ ss) h = (there (below_level ts fs s h.0) h.0, spots_push t ts f fs ss h.1)
 
-  pub good_push : (t : Typing) (ts : List Typing) (gets : List Place) (m : Memory) (frame : List Slot) → FrameFits t frame
+  pub good_push : (t : Typing) (ts : List Typing) (gets : List Place) (m : Memory) (frame : List Slot)
+      → FrameFits t frame
       → Good ts gets m → Good (t ∷ ts) gets (pushed frame m)
   good_push t ts gets m frame h g = record {
     frames = (h, g.frames);
@@ -325,11 +337,14 @@ module _ (layout : Arrangement) (exposed : List ℕ) where
       → SlotFits k (slice_index_or (map has vs ++ replicate n blank) x blank)
   argument_at [] others vs n x k h at below = absurd (let no : ⊥ = omega (arith, below) in no)
   argument_at (j ∷ ks) others [] n x k h at below = absurd h
-  argument_at (j ∷ ks) others (v ∷ vs) n zero k h at below = subst (λ k. IsOf layout exposed k v) (let e : j ≡ k = cc in e) h.0
-  argument_at (j ∷ ks) others (v ∷ vs) n (suc x) k h at below = argument_at ks others vs n x k h.1 at (omega (arith, below))
+  argument_at (j ∷ ks) others (v ∷ vs) n zero k h at below = subst (λ k. IsOf layout exposed k v)
+      (let e : j ≡ k = cc in e) h.0
+  argument_at (j ∷ ks) others (v ∷ vs) n (suc x) k h at below = argument_at ks others vs n x k h.1 at (omega
+      (arith, below))
 
   -- the frame of a function that is entered with these arguments
-  pub entered_fits : (ks others : List Kind) (t : Typing) (vs : List Value) (n : ℕ) → t.locals ≡ ks ++ others → length others ≡ n
+  pub entered_fits : (ks others : List Kind) (t : Typing) (vs : List Value) (n : ℕ) → t.locals ≡ ks ++ others
+      → length others ≡ n
       → ((x : ℕ) → Contains t.begun x → x < length ks) → AreOf layout exposed ks vs → FrameFits t (entered vs n)
   entered_fits ks others t vs n e count begun h = record {
     sized = length-append (map has vs) (replicate n blank)
@@ -365,7 +380,8 @@ module _ (layout : Arrangement) (exposed : List ℕ) where
   pop_spots t ts f fs [] n h = tt
   pop_spots t ts f fs (s ∷ ss) n h = (pop_spot t ts f fs s n h.0, pop_spots t ts f fs ss n h.1)
 
-  popped_frames : (t : Typing) (ts : List Typing) (gets : List Place) (fs : List (List Slot)) (getting : List Spot) → NoneAwaits (top fs)
+  popped_frames : (t : Typing) (ts : List Typing) (gets : List Place) (fs : List (List Slot)) (getting : List Spot)
+      → NoneAwaits (top fs)
       → Good (t ∷ ts) gets (record { frames = fs; getting = getting })
       → Good ts gets (record { frames = below fs; getting = getting })
   popped_frames t ts gets [] getting n g = absurd g.frames

@@ -25,7 +25,8 @@ within_if z true e h = h refl
 within_if z false e h = tt
 
 within : (z : ℤ) → OkFits (within_int z)
-within z = within_if z _ _ (λ h. let p = and_parts (int_le (neg_ℤ (pos (2 ^ 63))) z) (int_lt z (pos (2 ^ 63))) h in in_range z p.0 p.1)
+within z = within_if z _ _ (λ h. let p = and_parts (int_le (neg_ℤ (pos (2 ^ 63))) z) (int_lt z (pos
+    (2 ^ 63))) h in in_range z p.0 p.1)
 
 divided_fits : (f : ℤ → ℤ → ℤ) (a b : ℤ) → OkFits (divided f a b)
 divided_fits f a (pos zero) = tt

@@ -139,7 +139,8 @@ module _ (layout : Arrangement) (exposed : List ℕ) where
       (lt-ltb object (length layout.objects) (slice_get_within layout.objects object p.laid p.laid_is))
       (lt-ltb node layout.nodes p.node_within)
 
-  moved : (cell : List Star) (object node offset : ℕ) (to_node to_offset : ℕ) → to_node < layout.nodes → to_offset < 2 ^ 32
+  moved : (cell : List Star) (object node offset : ℕ) (to_node to_offset : ℕ) → to_node < layout.nodes
+      → to_offset < 2 ^ 32
       → Points layout cell object node offset → Points layout cell object to_node to_offset
   moved cell object node offset to_node to_offset h k p = record {
     laid = p.laid;
@@ -150,7 +151,8 @@ module _ (layout : Arrangement) (exposed : List ℕ) where
   }
 
   at_given : (cell : List Star) (object node offset : ℕ) → Contains exposed object
-      → (offset < 2 ^ 32 → Points layout cell object node offset) → (b : Bool) (kind : FaultKind) → nat_le offset 65536 ≡ b
+      → (offset < 2 ^ 32 → Points layout cell object node offset) → (b : Bool) (kind : FaultKind)
+      → nat_le offset 65536 ≡ b
       → Given layout exposed (to cell) (value_or_fault (if b then Ok (Ptr object node offset) else Err kind))
   at_given cell object node offset c p true kind e =
       let low = leb-true offset 65536 e in (p (omega (arith, low)), c)
@@ -158,12 +160,14 @@ module _ (layout : Arrangement) (exposed : List ℕ) where
 
   -- the pointer on the node at the offset
   offset_given : (cell : List Star) (object from at node offset : ℕ) → Contains exposed object → node < layout.nodes
-      → Points layout cell object from at → Given layout exposed (to cell) (value_or_fault (pointer_at object node offset))
+      → Points layout cell object from at
+      → Given layout exposed (to cell) (value_or_fault (pointer_at object node offset))
   offset_given cell object from at node offset c h p =
       at_given cell object node offset c (λ low. moved cell object from at node offset h low p) _ _ refl
 
   global_given : (cell : List Star) (object node offset : ℕ) (z : ℤ) → Contains exposed object
-      → Points layout cell object node offset → Given layout exposed (to cell) (value_or_fault (at_offset object node z))
+      → Points layout cell object node offset
+      → Given layout exposed (to cell) (value_or_fault (at_offset object node z))
   global_given cell object node offset (pos n) c p = offset_given cell object node offset node n c p.node_within p
   global_given cell object node offset (negsuc n) c p = tt
 
@@ -231,7 +235,8 @@ module _ (layout : Arrangement) (exposed : List ℕ) where
       of_pointer_given (to cell) v _ (is_a_pointer cell v h) (with_node_is cell node v below h)
 
   pub own_given : (placed : Bool) (cell : List Star) (node : ℕ) (v : Value) → node < layout.nodes
-      → IsOf layout exposed (to cell) v → Given layout exposed (named placed cell) (of_pointer layout v (gives (with_node node v)))
+      → IsOf layout exposed (to cell) v
+      → Given layout exposed (named placed cell) (of_pointer layout v (gives (with_node node v)))
   own_given placed cell node v below h =
       of_pointer_given (named placed cell) v _ (is_a_pointer cell v h) (with_node_named placed cell node v below h)
 

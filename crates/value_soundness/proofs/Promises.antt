@@ -47,12 +47,13 @@ module _ (layout : Arrangement) (exposed : List ℕ) where
     pub made : is_asked request ≡ false
     pub lawful : IsLawfulRequest layout exposed request
 
-  -- each request is lawful, whatever is answered that fits and names exposed objects only, and no value of a wrong kind is
-  -- met
+  -- each request is lawful, whatever is answered that fits and names exposed objects only, and no value of a wrong kind
+  -- is met
   abbrev pub Promises : (gets : List Place) → SourceDoing → Type 0
   Promises gets (Asks request test go) =
       IsAsked gets request test
-      × ((answer : Answer) → test answer ≡ true → AnswerNamesOnly exposed answer → Promises (then_gets gets request) (go answer))
+      × ((answer : Answer) → test answer ≡ true → AnswerNamesOnly exposed answer
+      → Promises (then_gets gets request) (go answer))
   Promises gets (Makes request rest) = IsMade request × Promises (then_gets gets request) rest
   Promises gets (Says text rest) = Promises gets rest
   Promises gets (Stops (Finishes end)) = Unit {0}
@@ -62,7 +63,8 @@ module _ (layout : Arrangement) (exposed : List ℕ) where
   abbrev pub PromisesPointed : (gets : List Place) → PointedDoing → Type 0
   PromisesPointed gets (Asks (Requested request) test go) =
       IsAsked gets request test
-      × ((answer : Answer) → test answer ≡ true → AnswerNamesOnly exposed answer → PromisesPointed (then_gets gets request) (go answer))
+      × ((answer : Answer) → test answer ≡ true → AnswerNamesOnly exposed answer
+      → PromisesPointed (then_gets gets request) (go answer))
   PromisesPointed gets (Asks (Came point) test go) = ⊥
   PromisesPointed gets (Makes (Requested request) rest) = IsMade request × PromisesPointed (then_gets gets request) rest
   PromisesPointed gets (Makes (Came point) rest) = PromisesPointed gets rest
@@ -83,10 +85,12 @@ module _ (layout : Arrangement) (exposed : List ℕ) where
 
   -- ---- lawful answers
 
-  pub lawful_read : (place : Place) (v : Value) → fits layout place v ≡ true → NamesOnly exposed v → IsLawfulAt layout exposed place v
+  pub lawful_read : (place : Place) (v : Value) → fits layout place v ≡ true → NamesOnly exposed v
+      → IsLawfulAt layout exposed place v
   lawful_read place v fit names = record { fits = (exact layout place v).0 fit; names = names }
 
-  pub lawful_all : (places : List Place) (vs : List Value) → fits_all layout places vs ≡ true → All (NamesOnly exposed) vs
+  pub lawful_all : (places : List Place) (vs : List Value) → fits_all layout places vs ≡ true
+      → All (NamesOnly exposed) vs
       → AreLawful layout exposed places vs
   lawful_all [] [] fit names = tt
   lawful_all [] (v ∷ vs) fit names = absurd (cc)

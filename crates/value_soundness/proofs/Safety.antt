@@ -1,6 +1,6 @@
 -- What comes after is safe where it keeps its promises after every memory whose locals are of their kinds: a logical
--- predicate over continuations, after Tait, "Intensional interpretations of functionals of finite type" (1967). A step on
--- values of the kinds that it takes is safe before what is safe.
+-- predicate over continuations, after Tait, "Intensional interpretations of functionals of finite type" (1967). A step
+-- on values of the kinds that it takes is safe before what is safe.
 use Rattle.std.proofs.Common.{◌≡◌, ℕ, zero, suc, inl, inr, Some, Bool, true, false, List, [], ◌∷◌, ◌++◌, map, slice_get, refl, sym, ap, subst, arith}
 use Rattle.std.specs.Prelude.{pos, negsuc}
 use Rattle.std.specs.List.{Contains}
@@ -36,7 +36,8 @@ with_begun new scope = record scope { begun = new ++ scope.begun }
 module _ (layout : Arrangement) (exposed : List ℕ) where
   abbrev pub Safe : List Typing → Rest → Type 0
   Safe ts rest =
-      (gs : List Place) (m : Memory) (left : ℕ) → Good layout exposed ts gs m → PromisesPointed layout exposed gs (rest m left)
+      (gs : List Place) (m : Memory) (left : ℕ) → Good layout exposed ts gs m
+      → PromisesPointed layout exposed gs (rest m left)
 
   abbrev pub SafeWith : List Typing → Kind → (Value → Rest) → Type 0
   SafeWith ts k go = (v : Value) → IsOf layout exposed k v → Safe ts (go v)
@@ -50,7 +51,8 @@ module _ (layout : Arrangement) (exposed : List ℕ) where
   -- ---- tests
 
   pub used_safe : (gs : List Place) (line : ℕ) (s : Slot) (go : Value → PointedDoing)
-      → ((v : Value) → s ≡ has v → PromisesPointed layout exposed gs (go v)) → PromisesPointed layout exposed gs (used line s go)
+      → ((v : Value) → s ≡ has v → PromisesPointed layout exposed gs (go v))
+      → PromisesPointed layout exposed gs (used line s go)
   used_safe gs line (has v) go h = h v refl
   used_safe gs line awaits go h = tt
 
@@ -60,7 +62,8 @@ module _ (layout : Arrangement) (exposed : List ℕ) where
   counted_safe gs (suc n) go h = h n
 
   pub none_awaits_safe : (gs : List Place) (line : ℕ) (f : List Slot) (d : PointedDoing)
-      → (NoneAwaits layout exposed f → PromisesPointed layout exposed gs d) → PromisesPointed layout exposed gs (none_awaits line f d)
+      → (NoneAwaits layout exposed f → PromisesPointed layout exposed gs d)
+      → PromisesPointed layout exposed gs (none_awaits line f d)
   none_awaits_safe gs line [] d h = h tt
   none_awaits_safe gs line (has v ∷ f) d h = none_awaits_safe gs line f d h
   none_awaits_safe gs line (awaits ∷ f) d h = tt
@@ -101,7 +104,8 @@ module _ (layout : Arrangement) (exposed : List ℕ) where
   itself : (t : Typing) (x : ℕ) → Grows layout exposed t t x
   itself t x = record { locals = refl; begun = λ y b. inr b }
 
-  read_next : (gs : List Place) (cell : List Star) (place : Place) (go : Value → PointedDoing) → IsCell layout cell place
+  read_next : (gs : List Place) (cell : List Star) (place : Place) (go : Value → PointedDoing)
+      → IsCell layout cell place
       → ((v : Value) → IsOf layout exposed (kind_of cell) v → PromisesPointed layout exposed gs (go v))
       → (answer : Answer) → fits_read layout place answer ≡ true → AnswerNamesOnly exposed answer
       → PromisesPointed layout exposed gs (go (shown_or_zero answer))
@@ -111,11 +115,13 @@ module _ (layout : Arrangement) (exposed : List ℕ) where
   read_next gs cell place go c k Passed fit names = absurd (cc)
   read_next gs cell place go c k Broken fit names = absurd (cc)
 
-  sync_next : (ts : List Typing) (gs : List Place) (m : Memory) (left : ℕ) (rest : Rest) → Good layout exposed ts gs m → Safe ts rest
+  sync_next : (ts : List Typing) (gs : List Place) (m : Memory) (left : ℕ) (rest : Rest)
+      → Good layout exposed ts gs m → Safe ts rest
       → (answer : Answer) → fits_sync layout (places m) answer ≡ true → AnswerNamesOnly exposed answer
       → PromisesPointed layout exposed [] (rest (synced (landed_or_none answer) m) left)
   sync_next ts gs m left rest g k (Landed vs) fit names =
-      k [] (synced vs m) left (good_sync layout exposed ts gs m vs g (lawful_all layout exposed (places m) vs fit names))
+      k [] (synced vs m) left (good_sync layout exposed ts gs m vs g (lawful_all layout exposed
+      (places m) vs fit names))
   sync_next ts gs m left rest g k (Shown v) fit names = absurd (cc)
   sync_next ts gs m left rest g k Passed fit names = absurd (cc)
   sync_next ts gs m left rest g k Broken fit names = absurd (cc)
@@ -128,7 +134,8 @@ module _ (layout : Arrangement) (exposed : List ℕ) where
   barrier_next gs d h (Shown v) fit = absurd (cc)
   barrier_next gs d h (Landed vs) fit = absurd (cc)
 
-  module _ (void : NoVoid) (scope : Scope) (call : Calls) (safe : SafeCalls scope.functions call) (ts : List Typing) where
+  module _ (void : NoVoid) (scope : Scope) (call : Calls) (safe : SafeCalls scope.functions call)
+      (ts : List Typing) where
     abbrev all : List Typing
     all = typing_of scope ∷ ts
 
@@ -141,8 +148,10 @@ module _ (layout : Arrangement) (exposed : List ℕ) where
         used_safe gs line (slot m x) (λ v. go v m left) (λ v e. next v
         (has_fits k (slot m x) v e (local_fits layout exposed (typing_of scope) ts gs m x k g h.0 h.1)) gs m left g)
     performs k (sets x v) line go h next gs m left g =
-        used_safe gs line (slot m x) (λ old. go v (with_slot m x (has v)) left) (λ old e. next v h.1 gs (with_slot m x (has v)) left
-        (good_set layout exposed (typing_of scope) (typing_of scope) ts gs m x k v old (itself (typing_of scope) x) g h.0 h.1 e))
+        used_safe gs line (slot m x) (λ old. go v (with_slot m x (has v)) left) (λ old e. next v h.1 gs
+        (with_slot m x (has v)) left
+        (good_set layout exposed (typing_of scope) (typing_of scope) ts gs m x k v old (itself
+        (typing_of scope) x) g h.0 h.1 e))
     performs k (reads place) line go h next gs m left g = (
       record { asked = refl; lawful = h.1.placed; fits = λ answer. refl },
       read_next gs h.0 place (λ v. go v m left) h.1
@@ -151,14 +160,19 @@ module _ (layout : Arrangement) (exposed : List ℕ) where
     performs k (writes place v) line go h next gs m left g = (
       record {
         made = refl;
-        lawful = (h.1.placed, to_cell layout exposed void h.0 place v h.1 (subst (λ k. IsOf layout exposed k v) h.2 h.3));
+        lawful = (
+          h.1.placed,
+          to_cell layout exposed void h.0 place v h.1 (subst
+              (λ k. IsOf layout exposed k v) h.2 h.3),
+        );
       },
       next v h.3 gs m left g,
     )
     performs k (calls f vs) line go h next gs m left g =
         safe f h.0 vs line go all h.1 h.2 (subst (λ k. SafeWith all k go) h.3 next) gs m left g
 
-    new_begun : (new : List ℕ) (x : ℕ) → new ≡ x ∷ [] → Grows layout exposed (typing_of scope) (typing_of (with_begun new scope)) x
+    new_begun : (new : List ℕ) (x : ℕ) → new ≡ x ∷ []
+        → Grows layout exposed (typing_of scope) (typing_of (with_begun new scope)) x
     new_begun new x e = record {
       locals = refl;
       begun = λ y b. elim (Contains-append_cases new scope.begun y b) [
@@ -172,23 +186,29 @@ module _ (layout : Arrangement) (exposed : List ℕ) where
         only x y (suc n, within, is) = absurd (let no : ⊥ = omega (arith, within) in no)
 
     -- where nothing new has begun
-    as_before : (new : List ℕ) (rest : Rest) → new ≡ [] → Safe (typing_of (with_begun new scope) ∷ ts) rest → Safe all rest
+    as_before : (new : List ℕ) (rest : Rest) → new ≡ [] → Safe (typing_of (with_begun new scope) ∷ ts) rest
+        → Safe all rest
     as_before new rest e h = subst (λ (new : List ℕ). Safe (typing_of (with_begun new scope) ∷ ts) rest) e h
 
-    pub enacts : (new : List ℕ) (mode : CopyMode) (done : Done) (line : ℕ) (rest : Rest) → DoneFits layout exposed scope new done
+    pub enacts : (new : List ℕ) (mode : CopyMode) (done : Done) (line : ℕ) (rest : Rest)
+        → DoneFits layout exposed scope new done
         → Safe (typing_of (with_begun new scope) ∷ ts) rest → Safe all (enact layout mode done line rest)
     enacts new mode lets_go line rest h next gs m left g = as_before new rest h next gs m left g
     enacts new mode (ends fault) line rest h next gs m left g = tt
     enacts new mode sticks line rest h next gs m left g = absurd h
     enacts new mode (clears x v) line rest h next gs m left g =
-        used_safe gs line (slot m x) (λ old. rest (with_slot m x (has v)) left) (λ old e. next gs (with_slot m x (has v)) left
-        (good_set layout exposed (typing_of scope) (typing_of (with_begun new scope)) ts gs m x h.0 v old (new_begun new x h.3) g h.1 h.2 e))
+        used_safe gs line (slot m x) (λ old. rest (with_slot m x (has v)) left) (λ old e. next gs (with_slot m x
+        (has v)) left
+        (good_set layout exposed (typing_of scope) (typing_of (with_begun new scope)) ts gs m x h.0 v old
+        (new_begun new x h.3) g h.1 h.2 e))
     enacts new mode (prints text) line rest h next gs m left g = as_before new rest h next gs m left g
     enacts new mode (fills x place) line rest h next gs m left g = (
       record { asked = refl; lawful = h.1.placed; fits = λ answer. refl },
       read_next gs h.0 place (λ v. used line (slot m x) (λ old. rest (with_slot m x (has v)) left)) h.1
-          (λ v is. used_safe gs line (slot m x) (λ old. rest (with_slot m x (has v)) left) (λ old e. next gs (with_slot m x (has v)) left
-          (good_set layout exposed (typing_of scope) (typing_of (with_begun new scope)) ts gs m x (kind_of h.0) v old (new_begun new x h.3) g h.2 is e))),
+          (λ v is. used_safe gs line (slot m x) (λ old. rest (with_slot m x (has v)) left) (λ old e. next gs
+          (with_slot m x (has v)) left
+          (good_set layout exposed (typing_of scope) (typing_of (with_begun new scope)) ts gs m x
+          (kind_of h.0) v old (new_begun new x h.3) g h.2 is e))),
     )
     enacts new mode (gets x place) line rest h next gs m left g =
         used_safe gs line (slot m x) _ (λ old e. (

@@ -78,22 +78,26 @@ low (suc n) x (suc k, within, is) = let h = low n x (k, omega (arith, within), i
 
 -- ---- calls
 
-module _ (here : Setting) (exposed : List ℕ) (objects : List Shape) (footing : Footing here.layout here.node objects) where
+module _ (here : Setting) (exposed : List ℕ) (objects : List Shape)
+    (footing : Footing here.layout here.node objects) where
   -- the locals of a function, whose parameters have begun
   abbrev entry : Function → Typing
   entry f = typing_of (scope_of objects here.program f)
 
-  body_safe : (call : Calls) → SafeCalls here.layout exposed here.program.functions call → (ts : List Typing) (f : Function)
+  body_safe : (call : Calls) → SafeCalls here.layout exposed here.program.functions call
+      → (ts : List Typing) (f : Function)
       → IsTypedFunction objects here.program f → Within exposed (exposes_in f.body) → (first : ℕ) (back : Value → Rest)
       → SafeBack here exposed ts (entry f).locals (kind_of_type f.result) back
       → Safe here.layout exposed (entry f ∷ ts) (body_of here call first f back)
   body_safe call safe ts f typed within first back ok gs m left g =
       let scope = scope_of objects here.program f in
       let fewest : Typing = record { locals = scope.locals; begun = [] } in
-      does_safe here exposed call safe ts f.body scope footing (refl, refl) (kind_of_type f.result) false false (first + 1)
+      does_safe here exposed call safe ts f.body scope footing (refl, refl) (kind_of_type f.result) false false
+      (first + 1)
       (in_body here back) _ typed within ok tt tt
       (λ gs m left g. ok (constant_of here (zero_of f.result)) f.line gs m left (zero_is here exposed f.result)
-      (good_restrict here.layout exposed (record { locals = scope.locals; begun = begins f.body ++ scope.begun }) fewest ts gs m refl
+      (good_restrict here.layout exposed
+      (record { locals = scope.locals; begun = begins f.body ++ scope.begun }) fewest ts gs m refl
       (λ x c. Contains-append_right (begins f.body) scope.begun x (none_begun x c)) g)) gs m left g
     where
       none_begun : (x : ℕ) → Contains [] x → Contains (below (length f.params)) x
@@ -102,7 +106,8 @@ module _ (here : Setting) (exposed : List ℕ) (objects : List Shape) (footing :
   entry_fits : (f : Function) (vs : List Value) → AreOf here.layout exposed (map kind_of_type f.params) vs
       → FrameFits here.layout exposed (entry f) (entered vs (length f.others))
   entry_fits f vs are =
-      entered_fits here.layout exposed (map kind_of_type f.params) (map kind_of_type f.others) (entry f) vs (length f.others)
+      entered_fits here.layout exposed (map kind_of_type f.params) (map kind_of_type f.others) (entry f) vs
+      (length f.others)
       (map-append kind_of_type f.params f.others) (length-map f.others kind_of_type)
       (λ x c. let b = low (length f.params) x c in let n = length-map f.params kind_of_type in omega (arith, b, n)) are
 
@@ -113,7 +118,8 @@ module _ (here : Setting) (exposed : List ℕ) (objects : List Shape) (footing :
   AllWithin = (n : ℕ) (f : Function) → slice_get here.program.functions n ≡ Some f → Within exposed (exposes_in f.body)
 
   -- a call's return
-  back_safe : (f : Function) (ts : List Typing) (go : Value → Rest) → SafeWith here.layout exposed ts (kind_of_type f.result) go
+  back_safe : (f : Function) (ts : List Typing) (go : Value → Rest)
+      → SafeWith here.layout exposed ts (kind_of_type f.result) go
       → SafeBack here exposed ts (entry f).locals (kind_of_type f.result) (λ v m left. go v (popped m) left)
   back_safe f ts go next v line gs m left is g =
       none_awaits_safe here.layout exposed gs line (top m.frames) (go v (popped m) left)
@@ -121,13 +127,17 @@ module _ (here : Setting) (exposed : List ℕ) (objects : List Shape) (footing :
       (good_pop here.layout exposed (record { locals = (entry f).locals; begun = [] }) ts gs m none g))
 
   module _ (typed : Typed) (within : AllWithin) where
-    entering_safe : (call : Calls) → SafeCalls here.layout exposed here.program.functions call → (n first : ℕ) (f : Function)
+    entering_safe : (call : Calls) → SafeCalls here.layout exposed here.program.functions call
+        → (n first : ℕ) (f : Function)
         (o : Option Function) (vs : List Value) (go : Value → Rest) (ts : List Typing)
-        → slice_get here.program.functions n ≡ Some f → o ≡ Some f → AreOf here.layout exposed (map kind_of_type f.params) vs
-        → SafeWith here.layout exposed ts (kind_of_type f.result) go → Safe here.layout exposed ts (entering here call first o vs go)
+        → slice_get here.program.functions n ≡ Some f → o ≡ Some f
+        → AreOf here.layout exposed (map kind_of_type f.params) vs
+        → SafeWith here.layout exposed ts (kind_of_type f.result) go
+        → Safe here.layout exposed ts (entering here call first o vs go)
     entering_safe call safe n first f None vs go ts at e are next gs m left g = absurd (cc)
     entering_safe call safe n first f (Some h) vs go ts at e are next gs m left g =
-        subst (λ (h : Function). PromisesPointed here.layout exposed gs (entering here call first (Some h) vs go m left))
+        subst (λ (h : Function). PromisesPointed here.layout exposed gs (entering here call first
+        (Some h) vs go m left))
         (let same : f ≡ h = cc in same)
         (body_safe call safe ts f (all_at (IsTypedFunction objects here.program) here.program.functions n f typed at)
         (within n f at) first (λ v m left. go v (popped m) left) (back_safe f ts go next) gs
@@ -135,13 +145,15 @@ module _ (here : Setting) (exposed : List ℕ) (objects : List Shape) (footing :
         (good_push here.layout exposed (entry f) ts gs m (entered vs (length f.others)) (entry_fits f vs are) g))
 
     calls_safe : (n : ℕ) → SafeCalls here.layout exposed here.program.functions (calls_by here n)
-    calls_safe zero f called vs line go ts at are next gs m left g = counted_safe here.layout exposed gs left _ (λ left. tt)
+    calls_safe zero f called vs line go ts at are next gs m left g = counted_safe here.layout exposed gs left _
+        (λ left. tt)
     calls_safe (suc n) f called vs line go ts at are next gs m left g =
         counted_safe here.layout exposed gs left _ (λ left.
         entering_safe (calls_by here n) (calls_safe n) f (first_point here.program.functions f) called
         (slice_get here.program.functions f) vs go ts at at are next gs m left g)
 
-    begun_safe : (f : Function) (budget : ℕ) → slice_get here.program.functions here.program.main ≡ Some f → f.params ≡ []
+    begun_safe : (f : Function) (budget : ℕ) → slice_get here.program.functions here.program.main ≡ Some f
+        → f.params ≡ []
         → PromisesPointed here.layout exposed [] (begun here (Some f) budget)
     begun_safe f budget at none =
         body_safe (calls_by here (LIMITS.frames - 1)) (calls_safe (LIMITS.frames - 1)) [] f
@@ -152,7 +164,8 @@ module _ (here : Setting) (exposed : List ℕ) (objects : List Shape) (footing :
         [] (record { frames = entered [] (length f.others) ∷ []; getting = [] }) budget
         (record {
           frames = (
-            entry_fits f [] (subst (λ (ps : List Ty). AreOf here.layout exposed (map kind_of_type ps) []) (sym none) tt),
+            entry_fits f [] (subst (λ (ps : List Ty). AreOf here.layout exposed (map kind_of_type ps) [])
+                (sym none) tt),
             tt,
           );
           spots = tt;
@@ -161,15 +174,18 @@ module _ (here : Setting) (exposed : List ℕ) (objects : List Shape) (footing :
 
 -- ---- a source
 
-pub promises : (layout : Arrangement) (program : Program) (node budget : ℕ) → IsLaidSource layout program → node < layout.nodes
-    → Promises layout (exposes_of program) [] (meaning (record { layout = layout; node = node; program = program }) budget)
+pub promises : (layout : Arrangement) (program : Program) (node budget : ℕ) → IsLaidSource layout program
+    → node < layout.nodes
+    → Promises layout (exposes_of program) [] (meaning
+    (record { layout = layout; node = node; program = program }) budget)
 promises layout program node budget source below =
     let here : Setting = record { layout = layout; node = node; program = program } in
     let typed = source.typed in
     let footing : Footing layout node (map (λ object. object.shape) layout.objects) =
     record { laid = source.laid; few = source.few_nodes; shapes = refl; node_within = below } in
     without layout (exposes_of program) (Sync 0) [] (pointed here budget)
-    (subst (λ (o : Option Function). PromisesPointed layout (exposes_of program) [] (begun here o budget)) (sym typed.begins)
+    (subst (λ (o : Option Function). PromisesPointed layout (exposes_of program) [] (begun here o budget))
+    (sym typed.begins)
     (begun_safe here (exposes_of program) (map (λ object. object.shape) layout.objects) footing typed.functions
     (λ n f at. exposed_there program.functions n f at) typed.main budget typed.begins typed.no_params))
 

@@ -1,4 +1,5 @@
--- Where a node stands after a past: what it was answered, what it has made, and what it does next. Each own event leads it on.
+-- Where a node stands after a past: what it was answered, what it has made, and what it does next. Each own event leads
+-- it on.
 use Rattle.std.proofs.Common.{◌≡◌, ◌≢◌, ℕ, ◌+◌, ◌≤◌, ◌⊎◌, inl, inr, Option, Some, None, Bool, true, false, List, [], ◌∷◌, ◌++◌, length, slice_get, append_assoc, length-append, refl, sym, ap, ◌∙◌, subst, arith}
 use Rattle.std.specs.List.{All}
 use Rattle.std.proofs.lemmas.List.Elements.{All-cons, All-push, All-weaker}
@@ -71,7 +72,8 @@ module _ (layout : Arrangement) (exposed : List ℕ) (node : ℕ) (start : Sourc
     pub promises : Promises layout exposed (gets_after [] (before ++ request ∷ [])) rest
     pub names : All (AnswerNamesOnly exposed) (v.given ++ answer ∷ [])
 
-  next : (v : View) (effs : List Effect) (s : Stands v effs) (before : List Request) (request : Request) (behind : List Request) (answer : Answer)
+  next : (v : View) (effs : List Effect) (s : Stands v effs) (before : List Request) (request : Request)
+      (behind : List Request) (answer : Answer)
       → (run_of start v.given).events ≡ before ++ request ∷ behind → length s.events ≤ length before
       → is_asked request ≡ true → fits_request layout (gets_after [] before) request answer ≡ true
       → AnswerNamesOnly exposed answer → Next v before request answer
@@ -82,7 +84,8 @@ module _ (layout : Arrangement) (exposed : List ℕ) (node : ℕ) (start : Sourc
       ap (gets_after []) front.before_is ∙ gets_after_all [] s.events front.middle in
       let right : fits_request layout (gets_after (gets_after [] s.events) front.middle) request answer ≡ true =
       subst (λ (ps : List Place). fits_request layout ps request answer ≡ true) all fit in
-      let a = answers layout exposed s.rest (gets_after [] s.events) front.middle request behind answer s.promises front.rest_is asks right names in
+      let a = answers layout exposed s.rest
+      (gets_after [] s.events) front.middle request behind answer s.promises front.rest_is asks right names in
       let list : s.events ++ (front.middle ++ request ∷ []) ≡ before ++ request ∷ [] =
       sym (append_assoc s.events front.middle (request ∷ []))
       ∙ ap (λ (rs : List Request). rs ++ request ∷ []) (sym front.before_is) in
@@ -91,7 +94,8 @@ module _ (layout : Arrangement) (exposed : List ℕ) (node : ℕ) (start : Sourc
         leads = subst (λ (rs : List Request). Leads Request Answer Halt start (v.given ++ answer ∷ []) rs a.rest) list
             (leads_on s.leads (answer ∷ []) (front.middle ++ request ∷ []) a.rest a.leads);
         promises = subst (λ (ps : List Place). Promises layout exposed ps a.rest)
-            (ap (λ (ps : List Place). then_gets ps request) (sym all) ∙ sym (gets_after_all [] before (request ∷ []))) a.promises;
+            (ap (λ (ps : List Place). then_gets ps request) (sym all) ∙ sym (gets_after_all [] before
+            (request ∷ []))) a.promises;
         names = All-push (AnswerNamesOnly exposed) v.given answer s.names names;
       }
 
@@ -106,9 +110,15 @@ module _ (layout : Arrangement) (exposed : List ℕ) (node : ℕ) (start : Sourc
   -- the effect of a request that is no issued one
   own_part : (done : List Request) (request : Request) (e : Effect) → e.number ≡ length done → is_issued request ≡ false
       → IsOfRequest layout exposed node (done ++ request ∷ []) e
-  own_part done request e n plain own = (request, get_at done [] request e.number n, λ issued. absurd (let no : false ≡ true = sym plain ∙ issued in cc))
+  own_part done request e n plain own = (
+    request,
+    get_at done [] request e.number n,
+    λ issued. absurd
+        (let no : false ≡ true = sym plain ∙ issued in cc),
+  )
 
-  with_effects : (v : View) (effs now : List Effect) (s : Stands v effs) → All (IsOfRequest layout exposed node s.done) now → Stands v now
+  with_effects : (v : View) (effs now : List Effect) (s : Stands v effs)
+      → All (IsOfRequest layout exposed node s.done) now → Stands v now
   with_effects v effs now s parts = record {
     events = s.events;
     rest = s.rest;
@@ -148,7 +158,8 @@ module _ (layout : Arrangement) (exposed : List ℕ) (node : ℕ) (start : Sourc
   following : (v : View) (effs : List Effect) (s : Stands v effs) (request : Request)
       → slice_get (run_of start v.given).events v.made ≡ Some request → Following v effs s request
   following v effs s request e =
-      let b = get_next s.done s.later v.made request s.made_is (subst (λ (rs : List Request). slice_get rs v.made ≡ Some request) s.run_is e) in
+      let b = get_next s.done s.later v.made request s.made_is (subst (λ
+      (rs : List Request). slice_get rs v.made ≡ Some request) s.run_is e) in
       record { tail = b.tail; run_is = s.run_is ∙ ap (λ (rs : List Request). s.done ++ rs) b.is }
 
   one_more : (done : List Request) (request : Request) (n : ℕ) → n ≡ length done → n + 1 ≡ length (done ++ request ∷ [])
@@ -182,12 +193,16 @@ module _ (layout : Arrangement) (exposed : List ℕ) (node : ℕ) (start : Sourc
       }
 
   -- a request that gets nothing leaves the gets as they are
-  gets_same : (done : List Request) (request : Request) (issued : List ℕ) → then_gets (gets_after [] done) request ≡ gets_after [] done
-      → GetsAre done issued (gets_after [] done) → GetsAre (done ++ request ∷ []) issued (gets_after [] (done ++ request ∷ []))
+  gets_same : (done : List Request) (request : Request) (issued : List ℕ)
+      → then_gets (gets_after [] done) request ≡ gets_after [] done
+      → GetsAre done issued (gets_after [] done)
+      → GetsAre (done ++ request ∷ []) issued (gets_after [] (done ++ request ∷ []))
   gets_same done request issued same h =
-      subst (GetsAre (done ++ request ∷ []) issued) (sym (gets_after_all [] done (request ∷ []) ∙ same)) (gets_kept (request ∷ []) h)
+      subst (GetsAre (done ++ request ∷ []) issued) (sym (gets_after_all [] done (request ∷ []) ∙ same)) (gets_kept
+      (request ∷ []) h)
 
-  pub stands_write : (v : View) (effs : List Effect) (e : Effect) (s : Stands v effs) (place : Place) (value : Value) (line : ℕ)
+  pub stands_write : (v : View) (effs : List Effect) (e : Effect) (s : Stands v effs) (place : Place)
+      (value : Value) (line : ℕ)
       → slice_get (run_of start v.given).events v.made ≡ Some (Write place value line) → v.arrivals ≤ v.releases
       → e.number ≡ v.made → Stands (record v { made = v.made + 1 }) (e ∷ effs)
   stands_write v effs e s place value line at free n =
@@ -197,17 +212,22 @@ module _ (layout : Arrangement) (exposed : List ℕ) (node : ℕ) (start : Sourc
       (own_part s.done request e (n ∙ s.made_is) refl) (parts_kept s.done (request ∷ []) effs s.parts))
 
   pub stands_issue : (v : View) (effs : List Effect) (s : Stands v effs) (request : Request) (number : ℕ)
-      → slice_get (run_of start v.given).events v.made ≡ Some request → v.arrivals ≤ v.releases → is_issued request ≡ true
+      → slice_get (run_of start v.given).events v.made ≡ Some request → v.arrivals ≤ v.releases
+      → is_issued request ≡ true
       → number ≡ v.made → Stands (record v { made = v.made + 1; issued = v.issued ++ number ∷ [] }) effs
   stands_issue v effs s request number at free issued n =
       make v effs effs s request (v.issued ++ number ∷ []) at free
-      (subst (GetsAre (s.done ++ request ∷ []) (v.issued ++ number ∷ [])) (sym (gets_after_all [] s.done (request ∷ [])))
-      (gets_push number request (gets_kept (request ∷ []) s.gets) (get_at s.done [] request number (n ∙ s.made_is)) issued))
+      (subst (GetsAre (s.done ++ request ∷ []) (v.issued ++ number ∷ [])) (sym (gets_after_all [] s.done
+      (request ∷ [])))
+      (gets_push number request (gets_kept (request ∷ []) s.gets) (get_at s.done [] request number
+      (n ∙ s.made_is)) issued))
       (parts_kept s.done (request ∷ []) effs s.parts)
 
   -- a request that is answered at once is made
-  answer_now : (v : View) (effs now : List Effect) (s : Stands v effs) (request : Request) (answer : Answer) (issued : List ℕ)
-      → slice_get (run_of start v.given).events v.made ≡ Some request → v.arrivals ≤ v.releases → is_asked request ≡ true
+  answer_now : (v : View) (effs now : List Effect) (s : Stands v effs) (request : Request) (answer : Answer)
+      (issued : List ℕ)
+      → slice_get (run_of start v.given).events v.made ≡ Some request → v.arrivals ≤ v.releases
+      → is_asked request ≡ true
       → fits_request layout (gets_after [] s.done) request answer ≡ true → AnswerNamesOnly exposed answer
       → GetsAre (s.done ++ request ∷ []) issued (gets_after [] (s.done ++ request ∷ []))
       → All (IsOfRequest layout exposed node (s.done ++ request ∷ [])) now
@@ -231,13 +251,15 @@ module _ (layout : Arrangement) (exposed : List ℕ) (node : ℕ) (start : Sourc
         stays = λ running. inl free;
       }
 
-  pub stands_read : (v : View) (effs : List Effect) (e : Effect) (s : Stands v effs) (place : Place) (line : ℕ) (value : Value)
+  pub stands_read : (v : View) (effs : List Effect) (e : Effect) (s : Stands v effs) (place : Place) (line : ℕ)
+      (value : Value)
       → slice_get (run_of start v.given).events v.made ≡ Some (Read place line) → v.arrivals ≤ v.releases
       → fits layout place value ≡ true → NamesOnly exposed value → e.number ≡ v.made
       → Stands (record v { given = v.given ++ Shown value ∷ []; made = v.made + 1 }) (e ∷ effs)
   stands_read v effs e s place line value at free fit names n =
       let request = Read place line in
-      answer_now v effs (e ∷ effs) s request (Shown value) v.issued at free refl fit names (gets_same s.done request v.issued refl s.gets)
+      answer_now v effs (e ∷ effs) s request (Shown value) v.issued at free refl fit names
+      (gets_same s.done request v.issued refl s.gets)
       (All-cons (IsOfRequest layout exposed node (s.done ++ request ∷ [])) e effs
       (own_part s.done request e (n ∙ s.made_is) refl) (parts_kept s.done (request ∷ []) effs s.parts))
 
@@ -266,7 +288,8 @@ module _ (layout : Arrangement) (exposed : List ℕ) (node : ℕ) (start : Sourc
   barrier_gets (Sync line) gets e = absurd (cc)
 
   pub stands_arrive : (v : View) (effs : List Effect) (s : Stands v effs) (request : Request)
-      → slice_get (run_of start v.given).events v.made ≡ Some request → is_barrier request ≡ true → v.arrivals ≤ v.releases
+      → slice_get (run_of start v.given).events v.made ≡ Some request → is_barrier request ≡ true
+      → v.arrivals ≤ v.releases
       → Stands (record v { made = v.made + 1; arrivals = v.arrivals + 1 }) effs
   stands_arrive v effs s request at is free =
       let f = following v effs s request at in
@@ -318,7 +341,8 @@ module _ (layout : Arrangement) (exposed : List ℕ) (node : ℕ) (start : Sourc
   barrier_fits (Sync line) gets answer e fit = absurd (cc)
 
   -- the barrier is answered at which the node stands
-  answer_barrier : (v : View) (effs : List Effect) (s : Stands v effs) (answer : Answer) (ended : Option End) (releases : ℕ)
+  answer_barrier : (v : View) (effs : List Effect) (s : Stands v effs) (answer : Answer) (ended : Option End)
+      (releases : ℕ)
       → AtBarrier v.arrivals v.releases s.events s.done → fits_barrier answer ≡ true
       → AnswerNamesOnly exposed answer → releases ≤ v.arrivals → (ended ≡ None → v.arrivals ≤ releases)
       → Stands (record v { given = v.given ++ answer ∷ []; ended = ended; releases = releases }) effs
@@ -345,7 +369,8 @@ module _ (layout : Arrangement) (exposed : List ℕ) (node : ℕ) (start : Sourc
 
   -- ---- releases and ends
 
-  pub stands_release : (v : View) (effs : List Effect) (s : Stands v effs) → v.ended ≡ None → v.releases + 1 ≤ v.arrivals
+  pub stands_release : (v : View) (effs : List Effect) (s : Stands v effs) → v.ended ≡ None
+      → v.releases + 1 ≤ v.arrivals
       → Stands (record v { given = v.given ++ Passed ∷ []; releases = v.releases + 1 }) effs
   stands_release v effs s running arrived =
       elim (s.stays running) [
@@ -354,7 +379,8 @@ module _ (layout : Arrangement) (exposed : List ℕ) (node : ℕ) (start : Sourc
             (λ none. let at = b.behind in omega (arith, at))
       ]
 
-  pub stands_waiting : (v : View) (effs : List Effect) (s : Stands v effs) → v.ended ≡ None → v.arrivals ≡ v.releases + 1
+  pub stands_waiting : (v : View) (effs : List Effect) (s : Stands v effs) → v.ended ≡ None
+      → v.arrivals ≡ v.releases + 1
       → Stands (record v { given = v.given ++ Broken ∷ []; ended = Some Waiting }) effs
   stands_waiting v effs s running at =
       elim (s.stays running) [
@@ -362,7 +388,8 @@ module _ (layout : Arrangement) (exposed : List ℕ) (node : ℕ) (start : Sourc
         | inr b ↦ answer_barrier v effs s Broken (Some Waiting) v.releases b refl tt s.kept (λ none. absurd (cc))
       ]
 
-  pub stands_end : (v : View) (effs : List Effect) (end : End) (s : Stands v effs) → Stands (record v { ended = Some end }) effs
+  pub stands_end : (v : View) (effs : List Effect) (end : End) (s : Stands v effs)
+      → Stands (record v { ended = Some end }) effs
   stands_end v effs end s = record {
     events = s.events;
     rest = s.rest;

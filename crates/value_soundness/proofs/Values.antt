@@ -79,14 +79,16 @@ module _ (layout : Arrangement) (exposed : List ℕ) where
   of_type ty Null h names = null_of ty.stars h
   of_type ty (Ptr object node offset) h names = found (slice_get layout.objects object) refl h.2
     where
-      found : (o : Option LaidObject) → slice_get layout.objects object ≡ o → IsSomeAnd o (λ o. IsPointerTo o.shape.ty ty)
+      found : (o : Option LaidObject) → slice_get layout.objects object ≡ o
+          → IsSomeAnd o (λ o. IsPointerTo o.shape.ty ty)
           → IsOf layout exposed (kind_of ty.stars) (Ptr object node offset)
       found None e p = absurd p
       found (Some laid) e p =
           pointer_of ty.stars laid.shape.ty.stars p.star object node offset p.stars
           (record { laid = laid; laid_is = e; stars = refl; node_within = h.0; offset_within = h.1 }) names
 
-  pub of_cell : (cell : List Star) (place : Place) (v : Value) → IsCell layout cell place → IsLawfulAt layout exposed place v
+  pub of_cell : (cell : List Star) (place : Place) (v : Value) → IsCell layout cell place
+      → IsLawfulAt layout exposed place v
       → IsOf layout exposed (kind_of cell) v
   of_cell cell place v c l =
       subst (λ (stars : List Star). IsOf layout exposed (kind_of stars) v) c.stars
@@ -103,7 +105,8 @@ ends_in s [] = record { star = s; is = refl }
 ends_in s (t ∷ ts) =
     let more = ends_in t ts in record { star = more.star; is = ap (λ (xs : List Star). s ∷ xs) more.is }
 
-module _ (layout : Arrangement) (exposed : List ℕ) (laid : (k : ℕ) (o : LaidObject) → slice_get layout.objects k ≡ Some o → o.shape.ty.void ≡ false) where
+module _ (layout : Arrangement) (exposed : List ℕ) (laid : (k : ℕ) (o : LaidObject)
+    → slice_get layout.objects k ≡ Some o → o.shape.ty.void ≡ false) where
   int_type : (stars : List Star) (n : ℤ) → IsOf layout exposed (kind_of stars) (Int n) → (stars ≡ []) × FitsSigned w64 n
   int_type [] n h = (refl, h)
   int_type (s ∷ ss) n h = absurd h

@@ -42,7 +42,8 @@ none_in exposed o (k, within, is) = absurd (let no : ⊥ = omega (arith, within)
 
 -- ---- constants
 
-pub constant_is : (here : Setting) (exposed : List ℕ) (objects : _) → Footing here.layout here.node objects → {c : Constant} {k : Kind}
+pub constant_is : (here : Setting) (exposed : List ℕ) (objects : _) → Footing here.layout here.node objects
+    → {c : Constant} {k : Kind}
     → IsConstant c k → IsOf here.layout exposed k (constant_of here c)
 constant_is here exposed objects footing (of_number fits) = fits
 constant_is here exposed objects footing of_null = tt
@@ -58,14 +59,16 @@ pub record IsScope (here : Setting) (objects : _) (scope : Scope) : Type 0 where
   pub functions_are : scope.functions ≡ here.program.functions
   pub texts_are : scope.texts ≡ length here.program.texts
 
-module _ (here : Setting) (exposed : List ℕ) (call : Calls) (safe : SafeCalls here.layout exposed here.program.functions call) (ts : List Typing) where
+module _ (here : Setting) (exposed : List ℕ) (call : Calls)
+    (safe : SafeCalls here.layout exposed here.program.functions call) (ts : List Typing) where
   abbrev SafeRest : Scope → Rest → Type 0
   SafeRest scope rest = Safe here.layout exposed (typing_of scope ∷ ts) rest
 
   abbrev SafeNext : Scope → Kind → (Value → Rest) → Type 0
   SafeNext scope k go = SafeWith here.layout exposed (typing_of scope ∷ ts) k go
 
-  module _ (scope : Scope) (footing : Footing here.layout here.node scope.objects) (functions : scope.functions ≡ here.program.functions) where
+  module _ (scope : Scope) (footing : Footing here.layout here.node scope.objects)
+      (functions : scope.functions ≡ here.program.functions) where
     pub calls_safe : SafeCalls here.layout exposed scope.functions call
     calls_safe = subst (λ (fs : List Function). SafeCalls here.layout exposed fs call) (sym functions) safe
 
@@ -76,16 +79,21 @@ module _ (here : Setting) (exposed : List ℕ) (call : Calls) (safe : SafeCalls 
         performs here.layout exposed (not_void here.layout footing.laid) scope call calls_safe ts k
         (made_of here.layout here.node operation vs) line go h next
 
-    back_safe : (back : Option Operation) (point line : ℕ) (k : Kind) (go : Value → Rest) → TakesBack back k → SafeNext scope k go
+    back_safe : (back : Option Operation) (point line : ℕ) (k : Kind) (go : Value → Rest) → TakesBack back k
+        → SafeNext scope k go
         → SafeNext scope k (taken_back here call back point line go)
     back_safe None point line k go h next v is gs m left g = next v is gs m left g
     back_safe (Some operation) point line k go h next v is gs m left g =
         performing k operation (v ∷ Int (pos 1) ∷ []) line go
-        (computes_fits here.layout exposed scope here.node footing h (v ∷ Int (pos 1) ∷ []) (is, (record { sfits = omega arith }, tt)))
+        (computes_fits here.layout exposed scope here.node footing h (v ∷ Int (pos 1) ∷ []) (
+          is,
+          (record { sfits = omega arith }, tt),
+        ))
         next gs m left g
 
     mutual
-      pub value_safe : (e : Core) (kind : Kind) (k : ℕ) (go : Value → Rest) → Has scope e kind → Within exposed (exposes e)
+      pub value_safe : (e : Core) (kind : Kind) (k : ℕ) (go : Value → Rest) → Has scope e kind
+          → Within exposed (exposes e)
           → SafeNext scope kind go → SafeRest scope (value here call e k go)
       value_safe (constant c) kind k go h w next gs m left g =
           next (constant_of here c) (constant_is here exposed scope.objects footing h) gs m left g
@@ -98,25 +106,32 @@ module _ (here : Setting) (exposed : List ℕ) (call : Calls) (safe : SafeCalls 
           value_safe test number k _ h.1 (first_in exposed (exposes test) (exposes on) (exposes off) w)
           (λ v is gs m left g. number_test here.layout exposed gs here.node v _ _ is
           (value_safe on kind _ go h.2 (second_in exposed (exposes test) (exposes on) (exposes off) w) next gs m left g)
-          (value_safe off kind _ go h.3 (third_in exposed (exposes test) (exposes on) (exposes off) w) next gs m left g)) gs m left g
+          (value_safe off kind _ go h.3 (third_in exposed (exposes test) (exposes on)
+          (exposes off) w) next gs m left g)) gs m left g
       value_safe (choice true test on off) kind k go h w next gs m left g =
           value_safe test (pointer_to h.1) k _ h.2 (first_in exposed (exposes test) (exposes on) (exposes off) w)
           (λ v is gs m left g. pointer_test here.layout exposed gs here.node v _ _
           (value_safe on kind _ go h.3 (second_in exposed (exposes test) (exposes on) (exposes off) w) next gs m left g)
-          (value_safe off kind _ go h.4 (third_in exposed (exposes test) (exposes on) (exposes off) w) next gs m left g)) gs m left g
+          (value_safe off kind _ go h.4 (third_in exposed (exposes test) (exposes on)
+          (exposes off) w) next gs m left g)) gs m left g
       value_safe (update pointer operation right back line) kind k go h w next gs m left g =
           let as_cell : (v : Value) → IsOf here.layout exposed kind v → IsOf here.layout exposed (kind_of h.0) v =
           λ v is. subst (λ (k : Kind). IsOf here.layout exposed k v) h.3 is in
           value_safe pointer h.1 k _ h.5 (in_left exposed (exposes pointer) (exposes right) w)
           (λ p at gs m left g. performing kind Read (p ∷ []) line _
-          (subst (λ (k : Kind). MadeFits here.layout exposed scope k (made_of here.layout here.node Read (p ∷ []))) (sym h.3)
+          (subst (λ (k : Kind). MadeFits here.layout exposed scope k (made_of here.layout here.node Read (p ∷ [])))
+          (sym h.3)
           (takes_fits here.layout exposed scope here.node footing (read h.4) (none_in exposed) (p ∷ []) (at, tt)))
           (λ old was gs m left g. value_safe right h.2 _ _ h.6 (in_right exposed (exposes pointer) (exposes right) w)
           (λ by is gs m left g. performing kind operation (old ∷ by ∷ []) line _
           (computes_fits here.layout exposed scope here.node footing h.7 (old ∷ by ∷ []) (was, (is, tt)))
           (λ new made gs m left g. performing kind Write (p ∷ new ∷ []) line _
-          (subst (λ (k : Kind). MadeFits here.layout exposed scope k (made_of here.layout here.node Write (p ∷ new ∷ []))) (sym h.3)
-          (takes_fits here.layout exposed scope here.node footing (write h.4) (none_in exposed) (p ∷ new ∷ []) (at, (as_cell new made, tt))))
+          (subst (λ (k : Kind). MadeFits here.layout exposed scope k (made_of here.layout here.node Write
+          (p ∷ new ∷ []))) (sym h.3)
+          (takes_fits here.layout exposed scope here.node footing (write h.4) (none_in exposed) (p ∷ new ∷ []) (
+            at,
+            (as_cell new made, tt),
+          )))
           (back_safe back _ line kind go h.8 next) gs m left g) gs m left g) gs m left g) gs m left g) gs m left g
 
       pub values_safe : (es : Arguments) (kinds : List Kind) (k : ℕ) (go : List Value → Rest) → Have scope es kinds

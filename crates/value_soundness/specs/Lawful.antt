@@ -1,5 +1,5 @@
--- Lawful values: what may stand in a cell of a typed source, where a pointer leads only to what the source exposes. What
--- a source asks is lawful where it stays in the layout and keeps each cell's value lawful.
+-- Lawful values: what may stand in a cell of a typed source, where a pointer leads only to what the source exposes.
+-- What a source asks is lawful where it stays in the layout and keeps each cell's value lawful.
 use Rattle.std.specs.Prelude.{◌≢◌, ℕ, List}
 use Rattle.std.specs.List.{All, Contains}
 use Rattle.resumption.specs.Resumption.{RunOf, Ends}
@@ -25,8 +25,8 @@ pub record IsLawfulAt (layout : Arrangement) (exposed : List ℕ) (place : Place
   pub names : NamesOnly exposed value
 
 module _ (layout : Arrangement) (exposed : List ℕ) where
-  -- the request's places are in the layout, what it writes is lawful there, and what it copies is lawful there too, since
-  -- the cells are of one type
+  -- the request's places are in the layout, what it writes is lawful there, and what it copies is lawful there too,
+  -- since the cells are of one type
   abbrev pub IsLawfulRequest : Request → Type 0
   IsLawfulRequest (Read place line) = IsPlace layout place
   IsLawfulRequest (Write place value line) = IsPlace layout place × IsLawfulAt layout exposed place value

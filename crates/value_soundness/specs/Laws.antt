@@ -1,5 +1,5 @@
--- Soundness of values, for sources that are typed: what is well typed does not go wrong, as in Milner, "A theory of type
--- polymorphism in programming" (1978).
+-- Soundness of values, for sources that are typed: what is well typed does not go wrong, as in Milner, "A theory of
+-- type polymorphism in programming" (1978).
 use Rattle.std.specs.Prelude.{ℕ, ◌^◌, ◌<◌, List, map, IsSome}
 use Rattle.std.specs.List.{All}
 use Rattle.resumption.specs.Resumption.{run_of, follow}
@@ -21,8 +21,8 @@ pub record IsLaidSource (layout : Arrangement) (program : Program) : Type 0 wher
   pub few_nodes : layout.nodes < 2 ^ 32
   pub typed : IsTyped (map (λ object. object.shape) layout.objects) program
 
--- Under answers whose pointers name exposed objects only, each node's run is lawful. An answer that does not fit its cell
--- is no answer to a run.
+-- Under answers whose pointers name exposed objects only, each node's run is lawful. An answer that does not fit its
+-- cell is no answer to a run.
 abbrev pub RunsAreLawful : Type 0
 RunsAreLawful =
     (layout : Arrangement) (program : Program) (node budget : ℕ) (given : List Answer)
@@ -30,15 +30,17 @@ RunsAreLawful =
     → RunsLawfully layout (exposes_of program)
     (run_of (meaning (record { layout = layout; node = node; program = program }) budget) given)
 
--- what a past shows of a node is lawful: each answer was asked for and fits, its pointers name exposed objects only, and
--- the node's run is lawful
-pub record ShowsLawfully (layout : Arrangement) (exposed : List ℕ) (processes : Processes) (node : ℕ) (past : List SourceEvent) : Type 0 where
+-- what a past shows of a node is lawful: each answer was asked for and fits, its pointers name exposed objects only,
+-- and the node's run is lawful
+pub record ShowsLawfully (layout : Arrangement) (exposed : List ℕ) (processes : Processes) (node : ℕ)
+    (past : List SourceEvent) : Type 0 where
   pub fits : IsSome (follow (processes.starts node) (answers processes node past))
   pub names : All (AnswerNamesOnly exposed) (answers processes node past)
   pub run : RunsLawfully layout exposed (run_so_far processes node past)
 
 -- a past is lawful: each effect on a cell, and what is shown of each node
-pub record IsLawfulPast (layout : Arrangement) (exposed : List ℕ) (processes : Processes) (past : List SourceEvent) : Type 0 where
+pub record IsLawfulPast (layout : Arrangement) (exposed : List ℕ) (processes : Processes)
+    (past : List SourceEvent) : Type 0 where
   pub effects : All (IsLawfulEffect layout exposed) (effects past)
   pub nodes : (node : ℕ) → node < processes.nodes → ShowsLawfully layout exposed processes node past
 
