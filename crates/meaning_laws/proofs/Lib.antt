@@ -4,3 +4,6 @@ pub mod Which
 pub mod Exact
 pub mod CompleteExact
 pub mod Fronts
+pub mod ByTest
+pub mod WholeExamples
+pub mod Refused
