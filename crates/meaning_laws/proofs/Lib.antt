@@ -7,3 +7,9 @@ pub mod Fronts
 pub mod ByTest
 pub mod WholeExamples
 pub mod Refused
+pub mod Shallow
+pub mod Stretch
+pub mod Closure
+pub mod PointsForgotten
+pub mod Budgeted
+pub mod Framed
