@@ -285,13 +285,13 @@ module _ (here : Setting) (P : (frames left : ℕ) → PointedDoing → Type 0) 
         let own = back all_marks at (size_of before) (marks_in before) (turn ∷ (marks_in body ++ marks_in next)) (long_in before) s in
         let inner = rest all_marks t turn (marks_in body ++ marks_in next) own in
         let within : (l : ℕ) → l ≤ most → JumpsHold l around =
-            λ l le. sooner most l le around (record { back = jumps.back; out = h; again = jumps.again }) in
+        λ l le. sooner most l le around (record { back = jumps.back; out = h; again = jumps.again }) in
         λ m left le. rounds_hold (suc left) t _ _ left (marked t _ (first all_marks t turn (marks_in body ++ marks_in next) own)) (omega arith)
         (λ round l l_le holds. does_holds before at around round l
         (front all_marks at (marks_in before) (turn ∷ (marks_in body ++ marks_in next)) s) (within l (omega arith)) holds)
         (λ round l l_le holds.
         let more = does_holds next u around round l
-            (back all_marks (t + 1) (size_of body) (marks_in body) (marks_in next) (long_in body) inner) (within l (omega arith)) holds in
+        (back all_marks (t + 1) (size_of body) (marks_in body) (marks_in next) (long_in body) inner) (within l (omega arith)) holds in
         let w = within l (omega arith) in
         does_holds body (t + 1) (record { back = j.back; out = after; again = does here calling next u around round })
         (does here calling next u around round) l (front all_marks (t + 1) (marks_in body) (marks_in next) inner)

@@ -87,7 +87,7 @@ module _ (program : Program) where
       ⊎_elim (λ (last : IsLast n point events end). absurd (nothing number last.last d.comes))
       (λ later.
       let i = deep_ends (after_mark (mark_at program point) n) events end later.1 number
-          (record { point = d.point; comes = d.comes; is_call = d.is_call; full = d.full }) in
+      (record { point = d.point; comes = d.comes; is_call = d.is_call; full = d.full }) in
       ((let e = i.0 in omega arith), i.1)) h.1
     where
       nothing : (i : ℕ) → events ≡ [] → slice_get events i ≡ Some (Came d.point) → ⊥
@@ -173,9 +173,13 @@ module _ (program : Program) where
       → ((answers : List Answer) → Framed (after_mark mark n) (run_of doing answers).events (run_of doing answers).end)
       → (answers : List Answer) → Framed n (run_of (pass point doing) answers).events (run_of (pass point doing) answers).end
   unfolding Framed
-  point_first n point mark doing few e room h answers =
-      (few, inr (λ c. room (sym e ∙ c),
-      subst (λ (m : Mark). Framed (after_mark m n) (run_of doing answers).events (run_of doing answers).end) (sym e) (h answers)))
+  point_first n point mark doing few e room h answers = (
+    few,
+    inr (
+      λ c. room (sym e ∙ c),
+      subst (λ (m : Mark). Framed (after_mark m n) (run_of doing answers).events (run_of doing answers).end) (sym e) (h answers),
+    ),
+  )
 
   passes_within : (n left point : ℕ) (doing : PointedDoing) → mark_at program point ≡ plain → Within n left doing
       → Within n left (pass point doing)

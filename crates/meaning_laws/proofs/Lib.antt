@@ -13,3 +13,4 @@ pub mod Closure
 pub mod PointsForgotten
 pub mod Budgeted
 pub mod Framed
+pub mod Instructions

@@ -8,7 +8,7 @@ use Rattle.sc_layout.specs.Place.{place_in}
 use Rattle.sc_meaning.specs.declared.event.SourceEvent.TheVariants.{Do, Issue, Effect, Sync, Arrive, Release, End as Over}
 use Rattle.meaning_laws.specs.ExampleSources.{exchange, copying, late_store, forsaking, meeting, misfitting}
 use Rattle.meaning_laws.specs.ExampleHistories.{int, s0, s1, s2, s3, exchanged, copied, stored_late}
-use Rattle.meaning_laws.specs.Refusals.{barging, restless, heedless, NodesGoOn, RequestsAreNext, PartsOccur, SyncsWait, ReleasesWait, EndsWait, NodesGiveUp, ConditionsRefuse}
+use Rattle.meaning_laws.specs.Refusals.{got_only, barging, restless, heedless, NodesGoOn, RequestsAreNext, PartsOccur, SyncsWait, ReleasesWait, EndsWait, NodesGiveUp, ConditionsRefuse}
 use Rattle.meaning_laws.specs.Incomplete.{ConditionsAreNeeded}
 use Rattle.meaning_laws.proofs.ByTest.{refuses_by, stops_by, unfinished_by, not_forsaken_by}
 
@@ -53,6 +53,7 @@ parts_occur = record {
   reads = stops_by exchange (take 3 exchanged) (Effect 0 1 0 false s3 (int 1)) refl refl;
   writes = stops_by exchange (take 3 exchanged) (Effect 0 0 0 true s1 (int 6)) refl refl;
   copy_reads_first = stops_by copying (take 3 copied) (Effect 0 1 0 true s1 (int 0)) refl refl;
+  copy_cells_apart = stops_by copying (take 3 copied) (Effect 0 1 1 false s0 (int 3)) refl refl;
   copy_writes_what_it_read = stops_by copying (take 5 copied) (Effect 0 1 0 true s1 (int 0)) refl refl;
 }
 
@@ -60,7 +61,7 @@ syncs_wait : SyncsWait
 unfolding cells_of place_in
 syncs_wait = record {
   get = stops_by exchange (take 5 exchanged) (Sync 0 3) refl refl;
-  put = stops_by exchange (Issue 0 0 ∷ Issue 0 1 ∷ Issue 0 2 ∷ Effect 0 2 0 false s1 (int 0) ∷ Effect 0 1 0 false s3 (int 0) ∷ []) (Sync 0 3) refl refl;
+  put = stops_by exchange got_only (Sync 0 3) refl refl;
   split_copy = stops_by copying (take 9 copied) (Sync 0 3) refl refl;
 }
 

@@ -119,7 +119,7 @@ function_stands all (x ∷ more) k zero g h e =
         (subst (λ xs. StandAt all k (enters ∷ xs)) (sym (append_assoc (marks_in x.body) (leaves ∷ []) (marks_of more))) h)
 function_stands all (x ∷ more) k (suc f) g h e =
     let r = back all (k + 1) (size_of x.body) (marks_in x.body) (leaves ∷ marks_of more) (long_in x.body)
-        (rest all k enters (marks_in x.body ++ leaves ∷ marks_of more) h) in
+    (rest all k enters (marks_in x.body ++ leaves ∷ marks_of more) h) in
     let t = rest all (k + 1 + size_of x.body) leaves (marks_of more) r in
     let same : k + 1 + size_of x.body + 1 ≡ k + size_of x.body + 2 = omega arith in
     function_stands all more (k + size_of x.body + 2) f g (subst (λ j. StandAt all j (marks_of more)) same t) e

@@ -6,3 +6,4 @@ pub mod Incomplete
 pub mod Marks
 pub mod Budget
 pub mod Points
+pub mod StepTable

@@ -1,6 +1,6 @@
 -- For each condition of a legal history an event that it alone refuses, after the first events of the small sources'
 -- histories.
-use Rattle.std.specs.Prelude.{true, false, List, [], ◌∷◌, take, reverse}
+use Rattle.std.specs.Prelude.{true, false, List, [], ◌∷◌, ◌++◌, take, reverse}
 use Rattle.resumption.specs.Resumption.{Asks, Makes, Stops}
 use Rattle.sc_base.specs.declared.value.End.TheVariants.{Ended, Cut, Waiting}
 use Rattle.sc_base.specs.declared.value.Value.TheVariants.{Null}
@@ -71,13 +71,16 @@ pub record PartsOccur : Type 0 where
   pub reads : StopsBefore exchange (take 3 exchanged) (Effect 0 1 0 false s3 (int 1))
   pub writes : StopsBefore exchange (take 3 exchanged) (Effect 0 0 0 true s1 (int 6))
   pub copy_reads_first : StopsBefore copying (take 3 copied) (Effect 0 1 0 true s1 (int 0))
+  pub copy_cells_apart : StopsBefore copying (take 3 copied) (Effect 0 1 1 false s0 (int 3))
   pub copy_writes_what_it_read : StopsBefore copying (take 5 copied) (Effect 0 1 0 true s1 (int 0))
+
+-- both gets have read before the put has written
+abbrev pub got_only : List SourceEvent
+got_only = take 3 exchanged ++ Effect 0 2 0 false s1 (int 0) ∷ Effect 0 1 0 false s3 (int 0) ∷ []
 
 pub record SyncsWait : Type 0 where
   pub get : StopsBefore exchange (take 5 exchanged) (Sync 0 3)
-  pub put :
-      StopsBefore exchange
-      (Issue 0 0 ∷ Issue 0 1 ∷ Issue 0 2 ∷ Effect 0 2 0 false s1 (int 0) ∷ Effect 0 1 0 false s3 (int 0) ∷ []) (Sync 0 3)
+  pub put : StopsBefore exchange got_only (Sync 0 3)
   pub split_copy : StopsBefore copying (take 9 copied) (Sync 0 3)
 
 pub record ReleasesWait : Type 0 where
