@@ -1,5 +1,5 @@
--- What a node's budget and its frames allow of its run, told by the points that the run passes. A turn of a loop or a call
--- begins at its point, unless the node is cut there.
+-- What a node's budget and its frames allow of its run, told by the points that the run passes. A turn of a loop or a
+-- call begins at its point, unless the node is cut there.
 use Rattle.std.specs.Prelude.{◌≡◌, ℕ, ◌+◌, ◌-◌, ◌≤◌, List, [], ◌∷◌, length, take, slice_get, Some, Bool, true, false, ◌⊎◌, if◌then◌else◌}
 use Rattle.resumption.specs.Resumption.{RunOf, RunEnd, Ends, run_of}
 use Rattle.sc_base.specs.declared.limits.TheConstants.{LIMITS}
@@ -46,7 +46,8 @@ after_mark _ frames = frames
 abbrev pub frames_after : Program → (frames : ℕ) → List Event → ℕ
 frames_after program frames [] = frames
 frames_after program frames (Requested request ∷ events) = frames_after program frames events
-frames_after program frames (Came point ∷ events) = frames_after program (after_mark (mark_at program point) frames) events
+frames_after program frames (Came point ∷ events) =
+    frames_after program (after_mark (mark_at program point) frames) events
 
 -- this event of the run is a call where no further frame may stand
 pub record IsDeepCall (program : Program) (events : List Event) (number : ℕ) : Type 0 where
@@ -62,10 +63,12 @@ IsCutOrDeep end = (end ≡ Ends (Finishes Cut)) ⊎ ((line : ℕ) × (end ≡ En
 -- the fault Depth, which comes nowhere else.
 pub record IsWithinFrames (program : Program) (run : RunOf Event Halt) : Type 0 where
   pub few : (number : ℕ) → frames_after program 0 (take number run.events) ≤ LIMITS.frames
-  pub deep : (number : ℕ) → IsDeepCall program run.events number → (length run.events ≡ number + 1) × IsCutOrDeep run.end
+  pub deep : (number : ℕ) → IsDeepCall program run.events number
+      → (length run.events ≡ number + 1) × IsCutOrDeep run.end
   pub deep_only : (line : ℕ) → run.end ≡ Ends (Finishes (Fault Depth line))
       → (number : ℕ) × IsDeepCall program run.events number × (length run.events ≡ number + 1)
 
 abbrev pub FramesAreBounded : Type 0
 FramesAreBounded =
-    (here : Setting) (budget : ℕ) (answers : List Answer) → IsWithinFrames here.program (run_of (pointed here budget) answers)
+    (here : Setting) (budget : ℕ) (answers : List Answer)
+    → IsWithinFrames here.program (run_of (pointed here budget) answers)

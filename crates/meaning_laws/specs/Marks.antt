@@ -1,5 +1,5 @@
--- What the points of a core tree are, in their order: whether a loop's turn begins at a point, a call is made there, or a
--- function is entered or left.
+-- What the points of a core tree are, in their order: whether a loop's turn begins at a point, a call is made there, or
+-- a function is entered or left.
 use Rattle.std.specs.Prelude.{ℕ, Option, Some, None, List, [], ◌∷◌, ◌++◌, slice_get}
 use Rattle.std.specs.Option.{option_map_or}
 use Rattle.sc_core.specs.declared.operation.Operation.{Operation}

@@ -1,5 +1,5 @@
--- The two columns of the table of steps agree: the instructions of a step do to a node's state what the step does with the
--- values of its arguments.
+-- The two columns of the table of steps agree: the instructions of a step do to a node's state what the step does with
+-- the values of its arguments.
 use Rattle.std.specs.Prelude.{◌≡◌, ℕ, ◌<◌, ◌≤◌, List, [], ◌∷◌, ◌++◌, length, map, reverse, slice_get, Some, Bool, true, false}
 use Rattle.sc_base.specs.declared.value.Value.{Value}
 use Rattle.sc_layout.specs.Layout.{Arrangement}
@@ -25,7 +25,8 @@ in_turn move go = move
 
 abbrev pub does_ops : Code → Arrangement → (node line : ℕ) → List Op → State → Move
 does_ops code layout node line [] s = Comes (GoesOn s)
-does_ops code layout node line (o ∷ ops) s = in_turn (does_op code layout node o line s) (does_ops code layout node line ops)
+does_ops code layout node line (o ∷ ops) s =
+    in_turn (does_op code layout node o line s) (does_ops code layout node line ops)
 
 -- the values of the arguments, the last on top
 abbrev pub with_values : List Value → State → State
@@ -91,7 +92,8 @@ HasRow code operation = Unit {0}
 
 abbrev pub StepsAreTheirInstructions : Type 0
 StepsAreTheirInstructions =
-    (code : Code) (layout : Arrangement) (node line site : ℕ) (one_way : Bool) (operation : Operation) (values : List Value) (s : State)
+    (code : Code) (layout : Arrangement) (node line site : ℕ) (one_way : Bool)
+    (operation : Operation) (values : List Value) (s : State)
     → IsAtSite code site operation → HasRow code operation → length values ≡ arguments_of operation
     → does_ops code layout node line (ops_of one_way site operation) (with_values values s)
     ≡ gain_done code site (track_of one_way site) line s (made_of layout node operation values)

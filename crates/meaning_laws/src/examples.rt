@@ -4,8 +4,8 @@ ghost use Rattle.meaning_laws.specs.ExampleHistories.{HistoriesHold};
 ghost use Rattle.meaning_laws.specs.Refusals.{ConditionsRefuse};
 ghost use Rattle.meaning_laws.specs.Incomplete.{ConditionsAreNeeded};
 
-/// Four histories of two nodes are legal and complete, with puts, gets, stores, copies in each way, syncs, barriers that
-/// are released and one that is not.
+/// Four histories of two nodes are legal and complete, with puts, gets, stores, copies in each way, syncs, barriers
+/// that are released and one that is not.
 pub fn histories_hold()
     ensures { HistoriesHold }
 {}
