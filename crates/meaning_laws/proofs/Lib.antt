@@ -14,3 +14,4 @@ pub mod PointsForgotten
 pub mod Budgeted
 pub mod Framed
 pub mod Instructions
+pub mod Cuts

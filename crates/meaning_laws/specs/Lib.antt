@@ -7,3 +7,4 @@ pub mod Marks
 pub mod Budget
 pub mod Points
 pub mod StepTable
+pub mod BudgetExamples

@@ -1,6 +1,7 @@
 //! Small histories, by computation: whole ones, and for each condition one that it alone keeps from being whole.
 
 ghost use Rattle.meaning_laws.specs.ExampleHistories.{HistoriesHold};
+ghost use Rattle.meaning_laws.specs.BudgetExamples.{BudgetsCut};
 ghost use Rattle.meaning_laws.specs.Refusals.{ConditionsRefuse};
 ghost use Rattle.meaning_laws.specs.Incomplete.{ConditionsAreNeeded};
 
@@ -18,4 +19,10 @@ pub fn conditions_refuse()
 /// For each condition of completeness a list of events that it alone keeps from being complete.
 pub fn conditions_are_needed()
     ensures { ConditionsAreNeeded }
+{}
+
+/// Small sources use up their budget in loops and in calls, or their frames; a loop that is left before its turn uses no
+/// budget.
+pub fn budgets_cut()
+    ensures { BudgetsCut }
 {}
