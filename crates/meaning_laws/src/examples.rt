@@ -21,8 +21,8 @@ pub fn conditions_are_needed()
     ensures { ConditionsAreNeeded }
 {}
 
-/// Small sources use up their budget in loops and in calls, or their frames; a loop that is left before its turn uses no
-/// budget.
+/// Small sources use up their budget in loops and in calls, or their frames; a loop that is left before its turn uses
+/// no budget.
 pub fn budgets_cut()
     ensures { BudgetsCut }
 {}
