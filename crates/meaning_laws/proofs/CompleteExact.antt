@@ -34,7 +34,7 @@ unless_decides true b P Q d k = (λ e p. k.0 e, λ h. k.1 (h (d.0 refl)))
 unless_decides false b P Q d k = (λ e p. let f = d.1 p in absurd cc, λ h. refl)
 
 module _ (processes : Processes) (past : List SourceEvent) (node : ℕ) where
-  abbrev Forsakes : ℕ → Type 0
+  abbrev pub Forsakes : ℕ → Type 0
   Forsakes other =
       IsSome (ended other past) × ((ended other past ≡ Some Waiting → ⊥) × (arrivals other past < arrivals node past))
 
@@ -44,10 +44,10 @@ module _ (processes : Processes) (past : List SourceEvent) (node : ℕ) where
       (Decides-and _ _ (not_decides (is_waiting (ended other past)) _ (waits_decides (ended other past)))
       (Decides-ltb (arrivals other past) (arrivals node past)))
 
-  abbrev Stranded : Type 0
+  abbrev pub Stranded : Type 0
   Stranded = (arrivals node past ≡ releases past + 1) × ((other : ℕ) × (other < processes.nodes) × Forsakes other)
 
-  stranded_decides :
+  pub stranded_decides :
       Decides ((arrivals node past == releases past + 1) && any_below processes.nodes (forsakes past node)) Stranded
   stranded_decides =
       Decides-and _ _ (Decides-eqb (arrivals node past) (releases past + 1))

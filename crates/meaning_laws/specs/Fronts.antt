@@ -1,6 +1,7 @@
--- What a legal history shows of a node: its own events are the first requests of its run under the answers that the history
--- shows to it, and its end is that run's end. Each process' operations stand in the order of its program, as in Lamport's
--- sequential consistency ("How to make a multiprocessor computer that correctly executes multiprocess programs", 1979).
+-- What a legal history shows of a node: its own events are the first requests of its run under the answers that the
+-- history shows to it, and its end is that run's end. Each process' operations stand in the order of its program, as in
+-- Lamport's sequential consistency ("How to make a multiprocessor computer that correctly executes multiprocess
+-- programs", 1979).
 use Rattle.std.specs.Prelude.{◌≡◌, ℕ, ◌+◌, ◌<◌, List, [], ◌∷◌, ◌++◌, length, Some, Bool, true, false, ◌==◌, if◌then◌else◌}
 use Rattle.resumption.specs.Resumption.{RunEnd, Ends}
 use Rattle.resumption.specs.Laws.{Extends}
@@ -33,8 +34,10 @@ own node (event ∷ past) = if is_own node event then own node past ++ event ∷
 
 -- by the event the node makes its request of this number
 pub data Makes (node number : ℕ) : SourceEvent → Request → Type 0 where
-  reads : {place : Place} {value : Value} {line : ℕ} → Makes node number (Do node number false place value) (Read place line)
-  writes : {place : Place} {value : Value} {line : ℕ} → Makes node number (Do node number true place value) (Write place value line)
+  reads : {place : Place} {value : Value} {line : ℕ}
+      → Makes node number (Do node number false place value) (Read place line)
+  writes : {place : Place} {value : Value} {line : ℕ}
+      → Makes node number (Do node number true place value) (Write place value line)
   issues : {request : Request} → is_issued request ≡ true → Makes node number (Issue node number) request
   syncs : {line : ℕ} → Makes node number (Sync node number) (SyncRequest line)
   arrives : {line : ℕ} → Makes node number (Arrive node number false) (Barrier line)
@@ -44,7 +47,8 @@ pub data Makes (node number : ℕ) : SourceEvent → Request → Type 0 where
 -- behind all of the requests, and is the end of their run.
 pub data IsFront (node : ℕ) : (number : ℕ) → List SourceEvent → List Request → RunEnd Halt → Type 0 where
   so_far : {number : ℕ} {requests : List Request} {end : RunEnd Halt} → IsFront node number [] requests end
-  makes : {number : ℕ} {event : SourceEvent} {events : List SourceEvent} {request : Request} {requests : List Request} {end : RunEnd Halt}
+  makes : {number : ℕ} {event : SourceEvent} {events : List SourceEvent} {request : Request} {requests : List Request}
+      {end : RunEnd Halt}
       → Makes node number event request → IsFront node (number + 1) events requests end
       → IsFront node number (event ∷ events) (request ∷ requests) end
   is_over : {number : ℕ} {end : End} → IsFront node number (Over node end ∷ []) [] (Ends (Finishes end))
