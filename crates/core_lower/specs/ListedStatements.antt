@@ -16,12 +16,15 @@ begun_in objects params before [] = []
 begun_in objects params before (l ∷ more) =
     begun objects (params + length before) l.ty l.init l.line ∷ begun_in objects params (before ++ l.ty ∷ []) more
 
-unfoldable pub does_in : List Shape → (result : Ty) → (params : ℕ) → (before : List Ty) → TypedStatements → List Does
+unfoldable pub does_in : List Shape → (result : Ty) → (params : ℕ) → (before : List Ty) → TypedStatements →
+    List Does
 does_in objects result params before no_statements = []
 does_in objects result params before (statements s more) =
-    does_of objects result (params + length before) s ∷ does_in objects result params (before ++ types_in s) more
+    does_of objects result (params + length before) s
+    ∷ does_in objects result params (before ++ types_in s) more
 
-unfoldable pub arms_in : List Shape → (result : Ty) → (params : ℕ) → (before : List Ty) → TypedArms → List Armed
+unfoldable pub arms_in : List Shape → (result : Ty) → (params : ℕ) → (before : List Ty) → TypedArms →
+    List Armed
 arms_in objects result params before no_arms = []
 arms_in objects result params before (arms (arm test body) more) =
     record {

@@ -3,11 +3,7 @@
 
 mod acts;
 mod declarations;
-mod expressions;
 mod lowering;
-mod places;
-mod reading;
 mod statements;
-mod steps;
 
 pub use lowering::lower;

@@ -8,9 +8,9 @@ ghost use Rattle.core_lower.specs.ListedFunctions.{function_in, listed};
 ghost use Rattle.sc_core.specs.Lowering as lowering;
 ghost use Rattle.sc_core.specs.ViewStatements.{plain_function, plain_program};
 
-use crate::expressions::Sight;
-use crate::places::narrowed;
 use crate::statements::Body;
+use core_expr::Sight;
+use core_expr::places::narrowed;
 use sc_base::{Bytes, OutOfMemory, Ty, copy_of_type};
 use sc_core::{CoreFunction, CoreProgram};
 use sc_tree::{Texts, Typed, TypedFunction, TypedParam, TypedStmt};
@@ -41,62 +41,60 @@ fn copies_of(alloc: Global, texts: &[Bytes]) -> Result<Vec<Bytes>, AllocError>
     Ok(copies)
 }
 
-impl Sight<'_> {
-    /// The function with this body.
-    #[tactic(auto, using(std::proofs::lemmas::Grind::common_steps, crate::proofs::Numbered::bodies))]
-    fn function_with(
-        &self,
-        f: &TypedFunction,
-        body: &[TypedStmt],
-    ) -> Result<CoreFunction, AllocError>
-        ensures { IfOk result (λ made. plain_function made ≡ lowering.function_with self.now.objects.now
-            (plain_typed_function f.now) (plain_typed_block body.now)) }
-    {
-        let params = types_of(self.alloc, f.params.as_slice())?;
-        let result = copy_of_type(self.alloc, &f.result)?;
-        let mut others = Vec::new(self.alloc);
-        let within = Body {
-            sight: *self,
-            params: params.len(),
-            result: &f.result,
-        };
-        let all = within.block(&mut others, body)?;
-        Ok(CoreFunction {
-            params: Items::from_vec(params),
-            others: Items::from_vec(others),
-            result,
-            body: all.into_inner(),
-            line: f.line,
-        })
-    }
+/// The function with this body.
+#[tactic(auto, using(std::proofs::lemmas::Grind::common_steps, crate::proofs::Numbered::bodies))]
+fn function_with(
+    sight: &Sight<'_>,
+    f: &TypedFunction,
+    body: &[TypedStmt],
+) -> Result<CoreFunction, AllocError>
+    ensures { IfOk result (λ made. plain_function made ≡ lowering.function_with sight.now.objects.now
+        (plain_typed_function f.now) (plain_typed_block body.now)) }
+{
+    let params = types_of(sight.alloc, f.params.as_slice())?;
+    let result = copy_of_type(sight.alloc, &f.result)?;
+    let mut others = Vec::new(sight.alloc);
+    let within = Body {
+        sight: *sight,
+        params: params.len(),
+        result: &f.result,
+    };
+    let all = within.block(&mut others, body)?;
+    Ok(CoreFunction {
+        params: Items::from_vec(params),
+        others: Items::from_vec(others),
+        result,
+        body: all.into_inner(),
+        line: f.line,
+    })
+}
 
-    /// The function, if it has a body.
-    fn function_of(&self, f: &TypedFunction) -> Result<Option<CoreFunction>, AllocError>
-        ensures { IfOk result (λ made. option_map plain_function made ≡ function_in self.now.objects.now
-            (plain_typed_function f.now) (plain_typed_function f.now).body) }
-    {
-        match &f.body {
-            None => Ok(None),
-            Some(body) => {
-                let made = self.function_with(f, body.as_slice())?;
-                Ok(Some(made))
-            }
+/// The function, if it has a body.
+fn function_of(sight: &Sight<'_>, f: &TypedFunction) -> Result<Option<CoreFunction>, AllocError>
+    ensures { IfOk result (λ made. option_map plain_function made ≡ function_in sight.now.objects.now
+        (plain_typed_function f.now) (plain_typed_function f.now).body) }
+{
+    match &f.body {
+        None => Ok(None),
+        Some(body) => {
+            let made = function_with(sight, f, body.as_slice())?;
+            Ok(Some(made))
         }
     }
+}
 
-    /// The definitions; prototypes are left out.
-    #[tactic(auto, using(std::proofs::lemmas::Grind::common_steps, crate::proofs::Defined::definitions))]
-    fn functions_of(&self, all: &[TypedFunction]) -> Result<Vec<CoreFunction>, AllocError>
-        ensures { IfOk result (λ made. map plain_function made.items
-            ≡ lowering.functions_of self.now.objects.now (map plain_typed_function all.now)) }
-    {
-        let mut made = Vec::new(self.alloc);
-        for f in all {
-            let function = self.function_of(f)?;
-            push_function(&mut made, function)?;
-        }
-        Ok(made)
+/// The definitions; prototypes are left out.
+#[tactic(auto, using(std::proofs::lemmas::Grind::common_steps, crate::proofs::Defined::definitions))]
+fn functions_of(sight: &Sight<'_>, all: &[TypedFunction]) -> Result<Vec<CoreFunction>, AllocError>
+    ensures { IfOk result (λ made. map plain_function made.items
+        ≡ lowering.functions_of sight.now.objects.now (map plain_typed_function all.now)) }
+{
+    let mut made = Vec::new(sight.alloc);
+    for f in all {
+        let function = function_of(sight, f)?;
+        push_function(&mut made, function)?;
     }
+    Ok(made)
 }
 
 fn push_function(all: &mut Vec<CoreFunction>, f: Option<CoreFunction>) -> Result<(), AllocError>
@@ -144,7 +142,7 @@ fn lowered(alloc: Global, typed: &Typed) -> Result<CoreProgram, AllocError>
         alloc,
         objects: typed.objects.as_slice(),
     };
-    let functions = sight.functions_of(typed.functions.as_slice())?;
+    let functions = functions_of(&sight, typed.functions.as_slice())?;
     let names = typed.texts.as_slice();
     let first = names.len().saturating_sub(functions.len());
     let main = main_in(&names[first..])?;

@@ -17,11 +17,11 @@ ghost use Rattle.sc_core.specs.ViewStatements.{plain_does, chosen};
 use crate::acts::{
     block, choose, in_turn, leave_unless, loop_of, nothing, push_arm, push_statement, return_of,
 };
-use crate::declarations::{set_and_dropped, zero_of};
-use crate::expressions::Sight;
-use crate::places::is_pointer;
-use crate::reading::star_of;
-use crate::steps::{constant, used, with_two};
+use crate::declarations::{locals_begun, optional, set_and_dropped, splitting, whole, zero_of};
+use core_expr::Sight;
+use core_expr::places::is_pointer;
+use core_expr::reading::star_of;
+use core_expr::steps::{constant, used, with_two};
 use sc_base::{Binary, Ty};
 use sc_core::{Constant, CoreArm, CoreExpr, CoreStmt, Operation};
 use sc_tree::{Named, TypedArm, TypedExpr, TypedStmt};
@@ -119,24 +119,22 @@ fn chosen_alone(alloc: Global, arms: Vec<CoreArm>) -> Result<Boxed<CoreStmt>, Al
     Ok(made)
 }
 
-impl Sight<'_> {
-    /// Leaves the loop where the test is false.
-    fn tested(&self, e: &TypedExpr) -> Result<Boxed<CoreStmt>, AllocError>
-        ensures { IfOk result (λ made. plain_does made ≡ statements.tested self.now.objects.now (plain_typed e.now)) }
-    {
-        let test = self.value(e)?;
-        let made = leave_unless(self.alloc, is_pointer(star_of(e)), test)?;
-        Ok(made)
-    }
+/// Leaves the loop where the test is false.
+fn tested(sight: &Sight<'_>, e: &TypedExpr) -> Result<Boxed<CoreStmt>, AllocError>
+    ensures { IfOk result (λ made. plain_does made ≡ statements.tested sight.now.objects.now (plain_typed e.now)) }
+{
+    let test = sight.value(e)?;
+    let made = leave_unless(sight.alloc, is_pointer(star_of(e)), test)?;
+    Ok(made)
+}
 
-    fn tested_if(&self, e: &Option<TypedExpr>) -> Result<Boxed<CoreStmt>, AllocError>
-        ensures { IfOk result (λ made. plain_does made
-            ≡ statements.tested_if self.now.objects.now (option_map plain_typed e.now)) }
-    {
-        match e {
-            None => nothing(self.alloc),
-            Some(e) => self.tested(e),
-        }
+fn tested_if(sight: &Sight<'_>, e: &Option<TypedExpr>) -> Result<Boxed<CoreStmt>, AllocError>
+    ensures { IfOk result (λ made. plain_does made
+        ≡ statements.tested_if sight.now.objects.now (option_map plain_typed e.now)) }
+{
+    match e {
+        None => nothing(sight.alloc),
+        Some(e) => tested(sight, e),
     }
 }
 
@@ -174,16 +172,16 @@ impl Body<'_> {
             TypedStmt::Block(all) => self.block(others, all.as_slice()),
             TypedStmt::Empty => nothing(self.sight.alloc),
             TypedStmt::Declare { locals } => {
-                self.sight.declared(self.params, others, locals.as_slice())
+                locals_begun(&self.sight, self.params, others, locals.as_slice())
             }
-            TypedStmt::Simple(e) => self.sight.whole(e),
+            TypedStmt::Simple(e) => whole(&self.sight, e),
             TypedStmt::Split {
                 left,
                 right,
                 oneway,
                 line,
                 ..
-            } => self.sight.splitting(left, right, *oneway, *line),
+            } => splitting(&self.sight, left, right, *oneway, *line),
             TypedStmt::If { arms, rest } => {
                 let arms = self.arms(others, arms.as_slice())?;
                 match rest {
@@ -236,8 +234,8 @@ impl Body<'_> {
             let one = self.statement(others, stmt)?;
             push_statement(&mut made, one)?;
         }
-        let whole = block(self.sight.alloc, made)?;
-        Ok(whole)
+        let joined = block(self.sight.alloc, made)?;
+        Ok(joined)
     }
 
     /// The arms of an `if`.
@@ -291,7 +289,7 @@ impl Body<'_> {
         ensures types { IfOk result (λ _. others.new.items
             ≡ others.old.items ++ types_in (plain_typed_stmt body.now)) }
     {
-        let before = self.sight.tested(test)?;
+        let before = tested(&self.sight, test)?;
         let turn = self.statement(others, body)?;
         let after = nothing(self.sight.alloc)?;
         let made = loop_of(self.sight.alloc, None, before, turn, after)?;
@@ -313,7 +311,7 @@ impl Body<'_> {
             ≡ others.old.items ++ types_in (plain_typed_stmt body.now)) }
     {
         let turn = self.statement(others, body)?;
-        let after = self.sight.tested(test)?;
+        let after = tested(&self.sight, test)?;
         let before = nothing(self.sight.alloc)?;
         let made = loop_of(self.sight.alloc, None, before, turn, after)?;
         Ok(made)
@@ -338,10 +336,10 @@ impl Body<'_> {
         ensures types { IfOk result (λ _. others.new.items
             ≡ others.old.items ++ types_in (plain_typed_stmt body.now)) }
     {
-        let first = self.sight.optional(first)?;
-        let before = self.sight.tested_if(test)?;
+        let first = optional(&self.sight, first)?;
+        let before = tested_if(&self.sight, test)?;
         let turn = self.statement(others, body)?;
-        let after = self.sight.optional(next)?;
+        let after = optional(&self.sight, next)?;
         let all = loop_of(self.sight.alloc, None, before, turn, after)?;
         let made = in_turn(self.sight.alloc, first, all)?;
         Ok(made)

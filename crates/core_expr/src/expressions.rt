@@ -7,10 +7,10 @@ ghost use Rattle.sc_core.specs.Core as core_tree;
 ghost use Rattle.sc_core.specs.declared.operation.Operation.TheVariants as does;
 ghost use Rattle.sc_core.specs.Expressions as expressions;
 ghost use Rattle.sc_core.specs.Expressions.{value_of};
-ghost use Rattle.core_lower.specs.Listed.{values_in, tests_in};
+ghost use Rattle.core_expr.specs.Listed.{values_in, tests_in};
 ghost use Rattle.sc_core.specs.Places as places;
 ghost use Rattle.sc_core.specs.View.{plain_core, arguments_of};
-ghost use Rattle.core_lower.specs.ViewFound.{seen_found};
+ghost use Rattle.core_expr.specs.ViewFound.{seen_found};
 ghost use Rattle.sc_core.specs.ViewParts.{plain_core_test};
 
 use crate::places::{

@@ -8,7 +8,7 @@ use Rattle.sc_core.specs.declared.expression.CoreFirst.{CoreFirst}
 use Rattle.sc_core.specs.declared.expression.CoreLink.{CoreLink}
 use Rattle.sc_core.specs.Core.{Core, step, Arguments, argument}
 use Rattle.sc_core.specs.Places.{exposed}
-use Rattle.core_lower.specs.Exposed.{exposed_operation}
+use Rattle.core_expr.specs.Exposed.{exposed_operation}
 use Rattle.sc_core.specs.View.{Linked, linked, Tested, every_of, any_of, plain_core}
 use Rattle.sc_core.specs.ViewParts.{plain_core_first, plain_core_link}
 use Rattle.sc_core.proofs.ViewCoreLaws.{linked-more, core_expr-is, core_expr-made}

@@ -9,7 +9,7 @@ use Rattle.sc_core.specs.Core.{Core, choice, argument}
 use Rattle.sc_core.specs.Places.{number_one, number_zero, is_pointer, fetched}
 use Rattle.sc_core.specs.Expressions.{star_of, count_of, behind_all, value_of, found, found_form, values_of, every, any}
 use Rattle.sc_core.specs.View.{arguments_of, every_of, any_of}
-use Rattle.core_lower.specs.Listed.{values_in, tests_in}
+use Rattle.core_expr.specs.Listed.{values_in, tests_in}
 
 pub found-is : (objects : List Shape) (e : TypedExpr) → found objects (plain_typed e) ≡ found_form objects (plain_typed_kind e.kind) e.line
 unfolding found

@@ -3,11 +3,11 @@ use Rattle.sc_tree.specs.ViewTyped.{plain_typed, plain_typed_link, plain_typed_t
 use Rattle.sc_core.specs.Core.{none}
 use Rattle.sc_core.specs.Places.{dimensions_of}
 use Rattle.sc_core.specs.Expressions.{joined, indices_found, tails_found}
-use Rattle.core_lower.specs.Listed.{values_in, tests_in}
+use Rattle.core_expr.specs.Listed.{values_in, tests_in}
 use Rattle.sc_core.specs.View.{plain_core, arguments_of}
-use Rattle.core_lower.specs.ViewFound.{seen_found}
+use Rattle.core_expr.specs.ViewFound.{seen_found}
 use Rattle.sc_core.specs.ViewParts.{plain_core_test}
-use Rattle.core_lower.proofs.expressions.Sight.+value.Given as goal
+use Rattle.core_expr.proofs.expressions.Sight.+value.Given as goal
 
 abbrev pub invariant-links-loop-link : goal.invariant-links-loop-link
 invariant-links-loop-link l =

@@ -1,7 +1,7 @@
 use Rattle.std.proofs.Common.{◌≡◌, map, drop}
 use Rattle.sc_tree.specs.ViewTyped.{plain_typed_link, typed_links_of}
 use Rattle.sc_core.specs.Expressions.{are_plain}
-use Rattle.core_lower.proofs.reading.+plain.Given as goal
+use Rattle.core_expr.proofs.reading.+plain.Given as goal
 
 abbrev pub invariant-are_plain-loop-link : goal.invariant-are_plain-loop-link
 invariant-are_plain-loop-link l =

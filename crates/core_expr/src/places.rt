@@ -2,9 +2,9 @@
 
 ghost use Rattle.std.specs.Prelude.{◌≡◌, IfOk, map, [], ◌∷◌, length};
 ghost use Rattle.sc_core.specs.Places as places;
-ghost use Rattle.core_lower.specs.Exposed.{exposed_operation};
+ghost use Rattle.core_expr.specs.Exposed.{exposed_operation};
 ghost use Rattle.sc_core.specs.View.{plain_core, arguments_of};
-ghost use Rattle.core_lower.specs.ViewFound.{seen_found};
+ghost use Rattle.core_expr.specs.ViewFound.{seen_found};
 ghost use Rattle.sc_core.specs.ViewParts.{plain_core_first, plain_core_link};
 
 use crate::steps::{constant, step, update, used, with_one, with_two};
@@ -48,30 +48,20 @@ pub fn without_last(stars: &[Star]) -> &[Star]
 pub fn is_own(star: Option<Star>) -> bool
     ensures { result ≡ places.is_own star }
 {
-    match star {
-        Some(Star::Local) => true,
-        _ => false,
-    }
+    matches!(star, Some(Star::Local))
 }
 
 /// Whether the last star is that of a pointer that names a node.
 fn is_wide(star: Option<Star>) -> bool
     ensures { result ≡ places.is_wide star }
 {
-    match star {
-        Some(Star::Global) => true,
-        Some(Star::Spread) => true,
-        _ => false,
-    }
+    matches!(star, Some(Star::Global | Star::Spread))
 }
 
 pub fn is_pointer(star: Option<Star>) -> bool
     ensures { result ≡ places.is_pointer star }
 {
-    match star {
-        None => false,
-        Some(_) => true,
-    }
+    star.is_some()
 }
 
 /// What an operator does, by the last star of its left operand's type.

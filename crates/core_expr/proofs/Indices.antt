@@ -7,7 +7,7 @@ use Rattle.sc_tree.specs.PlainTyped.{TypedExpression, TypedTails, no_tails, tail
 use Rattle.sc_core.specs.Core.{Arguments}
 use Rattle.sc_core.specs.Places.{object_with}
 use Rattle.sc_core.specs.Expressions.{behind_all, is_plain, value_of, indices_found, tails_found}
-use Rattle.core_lower.proofs.Equations.{arguments-more}
+use Rattle.core_expr.proofs.Equations.{arguments-more}
 
 module _ (objects : List Shape) (o : ℕ) where
   index-first : (rest count : ℕ) (plain : Bool) (indices : Arguments) (line : ℕ) (stars : List Star) (e : TypedExpression) (at l : ℕ) (more : TypedTails) →

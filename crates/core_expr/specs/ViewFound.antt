@@ -1,6 +1,6 @@
 -- What the code has found, as plain data.
-use Rattle.core_lower.specs.declared.places.Found.{Found as CodeFound}
-use Rattle.core_lower.specs.declared.places.Found.TheVariants as code
+use Rattle.core_expr.specs.declared.places.Found.{Found as CodeFound}
+use Rattle.core_expr.specs.declared.places.Found.TheVariants as code
 use Rattle.sc_core.specs.Places.{Found, value, local, cell}
 use Rattle.sc_core.specs.View.{plain_core}
 
