@@ -7,6 +7,7 @@ pub mod Kinds
 pub mod Typed
 pub mod View
 pub mod ViewStatements
+pub mod ViewParts
 pub mod Table
 pub mod Forms
 pub mod Shown

@@ -3,6 +3,7 @@
 mod calls;
 mod declarations;
 mod expressions;
+mod lowered;
 mod order;
 mod places;
 mod statements;

@@ -1,0 +1,4 @@
+pub mod Stars
+pub mod Exposed
+pub mod Equations
+pub mod Indices

@@ -1,0 +1,3 @@
+pub mod ViewFound
+pub mod Exposed
+pub mod Listed

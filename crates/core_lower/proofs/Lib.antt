@@ -1,0 +1,4 @@
+pub mod Wholes
+pub mod Numbered
+pub mod Mains
+pub mod Defined

@@ -1,0 +1,3 @@
+pub mod ViewWhole
+pub mod ListedStatements
+pub mod ListedFunctions

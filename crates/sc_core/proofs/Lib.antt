@@ -1,0 +1,2 @@
+pub mod ViewCoreLaws
+pub mod ViewCoreStmtLaws
