@@ -53,7 +53,7 @@ module _ (start : Place → Value) (nodes : ℕ) (whole : List Entry) where
   Is (Release m) = (r : ℕ) × (m ≡ suc r) × (r < released whole)
   Is (Over p end) = (past : List Entry) × Stands past (Finished p end) whole
 
-  step_character : (p : ℕ) (x : SourceEvent) → OwnStep p whole x → Is x
+  pub step_character : (p : ℕ) (x : SourceEvent) → OwnStep p whole x → Is x
   step_character p x o = by o.is
     where
       by : StepOf p o.past o.entry x → Is x
@@ -63,7 +63,7 @@ module _ (start : Place → Value) (nodes : ℕ) (whole : List Entry) where
       by (OfEnd end e q) = subst Is (sym q) (o.past, subst (λ u. Stands o.past u whole) e o.stands)
 
   module _ (w : Wired start nodes whole) where
-    effect_character : (e : CellEffect) → In e (effects start whole) → (o : Origin whole e) → Is (event_of whole e)
+    pub effect_character : (e : CellEffect) → In e (effects start whole) → (o : Origin whole e) → Is (event_of whole e)
     effect_character e i o = subst Is (sym (event_is start nodes whole w e o)) (by (is_done_at_once o.access) refl)
       where
         one : is_done_at_once o.access ≡ true → In (an_effect e.node e.number 0 e.wrote e.place e.value) (effects start whole)

@@ -31,6 +31,8 @@ pub mod MetEnd
 pub mod Exactly
 pub mod Orderable
 pub mod Ordering
+pub mod OwnSteps
+pub mod ByRules
 pub mod Instants
 pub mod Blocks
 pub mod PlainRuns

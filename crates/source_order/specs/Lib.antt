@@ -7,3 +7,4 @@ pub mod Law
 pub mod Story
 pub mod Whole
 pub mod Answering
+pub mod ByRules

@@ -1,17 +1,13 @@
 -- The own steps of the nodes of a run: what each entry of a journal is for the source, and its number among the node's
 -- requests. Explicit and blocking accesses are those of "Introduction to Split-C" (Culler and others, 1995). A past is
 -- a list of entries, the newest first.
-use Rattle.std.specs.Prelude.{ℕ, ◌+◌, List, [], ◌∷◌, ◌++◌, Option, Some, None, Bool, true, false, not, ◌==◌, ◌&&◌, nat_lt, if◌then◌else◌}
-use Rattle.sc_base.specs.declared.value.CopyMode.{CopyMode}
-use Rattle.sc_base.specs.declared.value.CopyMode.TheVariants.{Blocking, Split, OneWay}
+use Rattle.std.specs.Prelude.{ℕ, ◌+◌, List, [], ◌∷◌, ◌++◌, Option, Some, None, Bool, false, ◌==◌, ◌&&◌, nat_lt, if◌then◌else◌}
 use Rattle.sc_meaning.specs.declared.request.Request.{Request}
-use Rattle.sc_meaning.specs.declared.request.Request.TheVariants.{Read as ReadRequest, Write as WriteRequest, Get, Put, Store as StoreRequest, Copy as CopyRequest, Sync, Barrier, AllStoreSync}
+use Rattle.sc_meaning.specs.declared.request.Request.TheVariants.{Sync}
 use Rattle.sc_meaning.specs.History.{barrier_of}
 use Rattle.sc_meaning.specs.OfAccess.{request_in}
-use Rattle.sc_isa.specs.declared.access.Access.{Access}
 use Rattle.sc_isa.specs.declared.access.Access.TheVariants.{Read, Write, Copy}
 use Rattle.sc_isa.specs.declared.access.Track.{Track}
-use Rattle.sc_isa.specs.declared.access.Track.TheVariants.{Counter, Store, Covered}
 use Rattle.sc_isa.specs.declared.journal.Entry.{Entry}
 use Rattle.sc_isa.specs.declared.journal.Entry.TheVariants.{Issued, Waited, Arrived, Finished}
 

@@ -4,11 +4,19 @@ ghost use Rattle.effect_order.specs.Flow.{Flow};
 ghost use Rattle.sc_meaning.specs.declared.event.SourceEvent.{SourceEvent};
 ghost use Rattle.source_order.specs.Law.{OrderHolds, PlainRunsHaveNoCycle};
 ghost use Rattle.source_order.specs.Story.{ItemsAreOrderable, IsThatOrder};
+ghost use Rattle.source_order.specs.ByRules.{OrderIsByRules};
 
 /// Where what has to come before what has no cycle, the source order of a whole run takes every item once, is a legal and
 /// complete history of the processes, and has the ends, the texts and the memory of the run.
 pub fn order_holds()
     ensures { OrderHolds }
+{}
+
+/// The source order is exactly what the three rules give: the next own step, but for blocking reads and writes, of the least
+/// node for which it is allowed; else the next release; else the first effect that is allowed and before which, in the run,
+/// no conflicting one is left.
+pub fn order_is_by_rules()
+    ensures { OrderIsByRules }
 {}
 
 /// By time alone there is no cycle where each blocking access of a node is over before the node's next request.

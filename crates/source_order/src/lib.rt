@@ -5,5 +5,6 @@
 pub mod laws;
 
 pub use laws::{
-    Placing, items_are_orderable, order_holds, order_of_the_laws, plain_runs_have_no_cycle,
+    Placing, items_are_orderable, order_holds, order_is_by_rules, order_of_the_laws,
+    plain_runs_have_no_cycle,
 };
