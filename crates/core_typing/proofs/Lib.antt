@@ -1,3 +1,5 @@
 pub mod Types
 pub mod Cores
 pub mod Founds
+pub mod Finds
+pub mod Forms
