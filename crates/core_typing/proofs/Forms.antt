@@ -55,6 +55,10 @@ pub operates-back : {ss : List Star} (is_up : Bool) → Operates ss op.Add → O
 operates-back true up down = computes-on down
 operates-back false up down = computes-on up
 
+-- what was found is a cell
+pub data IsThere : Found → Type 0 where
+  is_there : {pointer : Core} {own : Bool} {line : ℕ} → IsThere (cell pointer own line)
+
 module _ (objects : List Shape) (scope : Scope) where
   abbrev Comes : List Star → TypedForm → ℕ → Type 0
   Comes ss form line = FoundIs scope ss (found_form objects form line)
@@ -118,10 +122,6 @@ module _ (objects : List Shape) (scope : Scope) where
       FoundIs scope (without_last ss) (found_form objects (typed.deref e) line)
   unfolding found_form
   deref-comes {e = e} line p f = behind-is scope (star_of e) line (value-points objects scope f p)
-
-  -- `&` of a cell
-  pub data IsThere : Found → Type 0 where
-    is_there : {pointer : Core} {own : Bool} {line : ℕ} → IsThere (cell pointer own line)
 
   pub address-comes : {ss : List Star} {e : TypedExpression} (s : Star) (line : ℕ) → E ss e → IsThere (found objects e) →
       FoundIs scope (ss ++ s ∷ []) (found_form objects (typed.address e) line)

@@ -5,3 +5,6 @@ pub mod Finds
 pub mod Forms
 pub mod Lists
 pub mod Behind
+pub mod Made
+pub mod Sound
+pub mod Judged
