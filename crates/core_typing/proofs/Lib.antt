@@ -8,3 +8,4 @@ pub mod Behind
 pub mod Made
 pub mod Sound
 pub mod Judged
+pub mod JudgedChains
