@@ -30,10 +30,13 @@ use Rattle.sc_core.specs.Expressions.{object_in, object_named, star_of, value_of
 use Rattle.sc_core.specs.Kinds.{Scope}
 use Rattle.core_typing.proofs.Types.{left_of, right_of, one_of, no_more, Points, points, points-last, Alike, int-stars, element-stars, last-is, same-elements, wide-there, fitting}
 use Rattle.core_typing.proofs.Founds.{FoundIs}
+use Rattle.sc_core.specs.Core.{Does}
+use Rattle.sc_core.specs.Statements.{whole_form}
+use Rattle.core_typing.proofs.Acts.{Acts, dropped-acts, assigning-acts}
 use Rattle.core_typing.proofs.Finds.{Finds, finds-form, null-found, star-is}
 use Rattle.core_typing.proofs.Forms.{Operates, on_number, on_pointer, number-comes, my_proc-comes, procs-comes, size_int-comes, plus-comes, prefix-comes, not-comes, deref-comes, IsThere, is_there, address-comes, cast-number-comes, cast-comes, choice-comes, assign-comes, compound-comes, step-comes}
 use Rattle.core_typing.proofs.Made.{Made, made-of, MadeOfTwo, made-of-two, MadeOfThree, made-of-three, some-is}
-use Rattle.core_typing.proofs.Sound.{IsPlaced, nowhere, as_local, as_memory, FitBoth, fit-both, Sound, Knows, Whole, whole-as, value-whole, met-finds}
+use Rattle.core_typing.proofs.Sound.{IsPlaced, nowhere, as_local, as_memory, FitBoth, fit-both, Sound, Knows, Whole, whole-as, acting-whole, value-whole, met-finds}
 
 -- what an operator asks of its left operand's type
 pub operates-by : (moves : Bool) (o : Binary) (ty : Ty) → (moves ≡ true → Rules.moves o ≡ true) →
@@ -92,30 +95,31 @@ module _ (objects : List Shape) (scope : Scope) where
   unfolding number_of
   number-whole n spot v f h =
       whole-as objects scope _ v (some-is _ v h)
-      (value-whole objects scope (typed.number n) int (int_eq n (pos 0)) spot _ refl refl refl
+      (value-whole objects scope (typed.number n) int (int_eq n (pos 0)) spot _ refl refl refl (λ d. refl)
       (number-comes objects scope spot.line f))
 
   constant-whole : (form : TypedForm) (spot : Spot) (v : Valued) → object_in form ≡ None →
+      ((d : Does) → whole_form objects form d spot.line ≡ d) →
       FoundIs scope [] (found_form objects form spot.line) → (constant form spot).known ≡ Some v → W (constant form spot) v
-  constant-whole form spot v o f h =
-      whole-as objects scope _ v (some-is _ v h) (value-whole objects scope form int false spot _ refl refl o f)
+  constant-whole form spot v o q f h =
+      whole-as objects scope _ v (some-is _ v h) (value-whole objects scope form int false spot _ refl refl o q f)
 
   pub my_proc-whole : (spot : Spot) (v : Valued) → (constant typed.my_proc spot).known ≡ Some v →
       W (constant typed.my_proc spot) v
-  my_proc-whole spot v h = constant-whole typed.my_proc spot v refl (my_proc-comes objects scope spot.line) h
+  my_proc-whole spot v h = constant-whole typed.my_proc spot v refl (λ d. refl) (my_proc-comes objects scope spot.line) h
 
   pub procs-whole : (spot : Spot) (v : Valued) → (constant typed.procs spot).known ≡ Some v →
       W (constant typed.procs spot) v
-  procs-whole spot v h = constant-whole typed.procs spot v refl (procs-comes objects scope spot.line) h
+  procs-whole spot v h = constant-whole typed.procs spot v refl (λ d. refl) (procs-comes objects scope spot.line) h
 
   pub size_int-whole : (spot : Spot) (v : Valued) → (constant typed.size_int spot).known ≡ Some v →
       W (constant typed.size_int spot) v
-  size_int-whole spot v h = constant-whole typed.size_int spot v refl (size_int-comes objects scope spot.line) h
+  size_int-whole spot v h = constant-whole typed.size_int spot v refl (λ d. refl) (size_int-comes objects scope spot.line) h
 
   pub null-whole : (spot : Spot) (v : Valued) → (null_constant spot).known ≡ Some v → W (null_constant spot) v
   null-whole spot v h =
       whole-as objects scope _ v (some-is _ v h)
-      (value-whole objects scope typed.null (pointer int star.Local) true spot _ refl refl refl
+      (value-whole objects scope typed.null (pointer int star.Local) true spot _ refl refl refl (λ d. refl)
       (null-found objects scope spot.line (points (star.Local ∷ []) refl)))
 
   -- ---- one operand
@@ -127,7 +131,7 @@ module _ (objects : List Shape) (scope : Scope) where
       let m = made-of (int_of typed.plus spot) (Rules.int_kept j.known) j.known v h in
       let kept = subst (λ (o : Option Valued). Rules.int_kept o ≡ true) m.is m.rule in
       whole-as objects scope _ v m.gives
-      (value-whole objects scope (typed.plus (m.of).expression) int false spot _ refl refl refl
+      (value-whole objects scope (typed.plus (m.of).expression) int false spot _ refl refl refl (λ d. refl)
       (plus-comes objects scope spot.line (int-finds m.of (k m.of m.is) kept)))
 
   prefix-found : {at_place : PlaceKind} (o : Unary) (v : Valued) (line : ℕ) → Sound objects scope at_place v →
@@ -143,7 +147,7 @@ module _ (objects : List Shape) (scope : Scope) where
       let m = made-of (int_of (typed.prefix o) spot) (prefix_kept o j.known) j.known v h in
       let kept = subst (λ (t : Option Valued). prefix_kept o t ≡ true) m.is m.rule in
       whole-as objects scope _ v m.gives
-      (value-whole objects scope (typed.prefix o (m.of).expression) int false spot _ refl refl refl
+      (value-whole objects scope (typed.prefix o (m.of).expression) int false spot _ refl refl refl (λ d. refl)
       (prefix-found o m.of spot.line (k m.of m.is) kept))
 
   deref-placed : (w : Valued) (spot : Spot) → Finds objects scope w.ty.stars w.expression → Points w.ty.stars →
@@ -159,19 +163,21 @@ module _ (objects : List Shape) (scope : Scope) where
       let m = made-of (deref_value spot) (Rules.pointer_kept j.known) j.known v h in
       let p = points (m.of).ty.stars (subst (λ (o : Option Valued). Rules.pointer_kept o ≡ true) m.is m.rule) in
       let s = k m.of m.is in
+      let f : Finds objects scope (element (m.of).ty).stars (deref_value spot m.of).expression =
+          finds-form objects scope
+          (subst (λ (ss : List Star). FoundIs scope ss (found_form objects (typed.deref (m.of).expression) spot.line))
+          (sym (element-stars (m.of).ty)) (deref-comes objects scope spot.line p s.finds)) in
       whole-as objects scope _ v m.gives
       (record {
         taken = refl;
         nameless = refl;
         sound = record {
-          finds =
-              finds-form objects scope
-              (subst (λ (ss : List Star). FoundIs scope ss (found_form objects (typed.deref (m.of).expression) spot.line))
-              (sym (element-stars (m.of).ty)) (deref-comes objects scope spot.line p s.finds));
+          finds = f;
           placed =
               subst (λ (o : Option Valued). IsPlaced (reached_by o) (found objects (deref_value spot m.of).expression))
               (sym m.is) (deref-placed m.of spot s.finds p);
         };
+        acts = dropped-acts objects scope f;
       })
 
   pub address-whole : (j : Judgement) (spot : Spot) (v : Valued) → Knows objects scope j →
@@ -182,8 +188,7 @@ module _ (objects : List Shape) (scope : Scope) where
       let s = k m.of m.is in
       let t = memory-there j.place (found objects (m.of).expression) s.placed m.rule in
       whole-as objects scope _ v m.gives
-      (value-whole objects scope (typed.address (m.of).expression) (address_type (m.of).ty j.place) false spot _ refl refl
-      refl
+      (value-whole objects scope (typed.address (m.of).expression) (address_type (m.of).ty j.place) false spot _ refl refl refl (λ d. refl)
       (subst (λ (pl : PlaceKind). FoundIs scope (address_type (m.of).ty pl).stars
       (found_form objects (typed.address (m.of).expression) spot.line)) (sym t.memory)
       (address-comes objects scope t.star spot.line s.finds t.there)))
@@ -211,7 +216,7 @@ module _ (objects : List Shape) (scope : Scope) where
       let m = made-of (cast_value stars spot) (Rules.cast_kept (cast_type stars) j.known) j.known v h in
       let kept = subst (λ (o : Option Valued). Rules.cast_kept (cast_type stars) o ≡ true) m.is m.rule in
       whole-as objects scope _ v m.gives
-      (value-whole objects scope (typed.cast stars (m.of).expression) (cast_type stars) false spot _ refl refl refl
+      (value-whole objects scope (typed.cast stars (m.of).expression) (cast_type stars) false spot _ refl refl refl (λ d. refl)
       (cast-found stars m.of spot.line (k m.of m.is) kept))
 
   pub step-whole : (is_up : Bool) (j : Judgement) (spot : Spot) (v : Valued) → Knows objects scope j →
@@ -222,7 +227,7 @@ module _ (objects : List Shape) (scope : Scope) where
       let kept = subst (λ (o : Option Valued). Rules.place_kept true j.place o ≡ true) m.is m.rule in
       let moved = right_of (Places.may_be_set j.place) (is_int (m.of).ty || (true && has_stars (m.of).ty.stars)) kept in
       whole-as objects scope _ v m.gives
-      (value-whole objects scope (typed.step is_up (m.of).expression) (m.of).ty false spot _ refl refl refl
+      (value-whole objects scope (typed.step is_up (m.of).expression) (m.of).ty false spot _ refl refl refl (λ d. refl)
       (step-comes objects scope is_up spot.line (operates-by true op.Add (m.of).ty (λ x. refl) moved)
       (operates-by true op.Sub (m.of).ty (λ x. refl) moved) (k m.of m.is).finds))
 
@@ -235,10 +240,12 @@ module _ (objects : List Shape) (scope : Scope) where
       let m = made-of-two (assigned_value spot) (Rules.assignment_kept left right) left.known right.known v h in
       let fit = assigned-fits left right m.first m.second m.left_is m.right_is m.rule in
       whole-as objects scope _ v m.gives
-      (value-whole objects scope (typed.assign None (m.first).expression (meets m.second (m.first).ty).expression)
+      (acting-whole objects scope (typed.assign None (m.first).expression (meets m.second (m.first).ty).expression)
       (m.first).ty false spot _ refl refl refl
       (assign-comes objects scope spot.line (k m.first m.left_is).finds
-      (met-finds objects scope m.second (m.first).ty (l m.second m.right_is) fit)))
+      (met-finds objects scope m.second (m.first).ty (l m.second m.right_is) fit))
+      (λ d a. assigning-acts scope spot.line (k m.first m.left_is).finds.is
+      (met-finds objects scope m.second (m.first).ty (l m.second m.right_is) fit).is a))
 
   pub compound-whole : (o : Binary) (left right : Judgement) (spot : Spot) (v : Valued) → Knows objects scope left →
       Knows objects scope right → (compound_of o left right spot).known ≡ Some v → W (compound_of o left right spot) v
@@ -254,7 +261,7 @@ module _ (objects : List Shape) (scope : Scope) where
       let number = subst (λ (t : Option Valued). Rules.are_int t ≡ true) m.right_is second_rule in
       whole-as objects scope _ v m.gives
       (value-whole objects scope (typed.assign (Some o) (m.first).expression (m.second).expression) (m.first).ty false
-      spot _ refl refl refl
+      spot _ refl refl refl (λ d. refl)
       (compound-comes objects scope o spot.line (operates-by (Rules.moves o) o (m.first).ty (λ x. x) kept)
       (k m.first m.left_is).finds (int-finds m.second (l m.second m.right_is) number)))
 
@@ -278,7 +285,6 @@ module _ (objects : List Shape) (scope : Scope) where
       let ty = common a.ty a.is_null b.ty in
       whole-as objects scope _ v m.gives
       (value-whole objects scope
-      (typed.choice (m.tested).expression (expression_of (meets a ty)) (expression_of (meets b ty))) ty false spot _ refl
-      refl refl
+      (typed.choice (m.tested).expression (expression_of (meets a ty)) (expression_of (meets b ty))) ty false spot _ refl refl refl (λ d. refl)
       (choice-comes objects scope spot.line (k m.tested m.test_is).finds
       (met-finds objects scope a ty (l a m.on_is) fit.first) (met-finds objects scope b ty (n b m.off_is) fit.second)))

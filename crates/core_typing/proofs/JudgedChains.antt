@@ -28,6 +28,8 @@ use Rattle.sc_core.specs.Expressions.{object_in, found_form}
 use Rattle.sc_core.specs.Kinds.{Scope}
 use Rattle.core_typing.proofs.Types.{left_of, right_of, one_of, no_more, Points, points, Alike, int-stars, Fitting, equal, null, wider, fitting}
 use Rattle.core_typing.proofs.Founds.{FoundIs}
+use Rattle.sc_core.specs.Core.{Does}
+use Rattle.sc_core.specs.Statements.{whole_form}
 use Rattle.core_typing.proofs.Finds.{Finds}
 use Rattle.core_typing.proofs.Forms.{Operates, on_number, on_pointer}
 use Rattle.core_typing.proofs.Lists.{Chained, chained-first, chained-moved, chained-number, chained-equal, chained-differ, chain-comes, AllFind, none_found, all-push, both-comes, either-comes}
@@ -213,7 +215,7 @@ module _ (objects : List Shape) (scope : Scope) where
         ends : (k : Linked) → Linking k → Whole objects scope (chained spot (Some k)) (chain_value spot k)
         ends k x =
             value-whole objects scope (typed.chain (expression_of k.first) (typed_links_of k.rest)) k.ty false spot _ refl
-            refl refl (chain-comes objects scope spot.line (linking-chained k x))
+            refl refl (λ d. refl) (chain-comes objects scope spot.line (linking-chained k x))
 
         last : (m : Option Linked) → ((k : Linked) → m ≡ Some k → Linking k) → (chained spot m).known ≡ Some v →
             Whole objects scope (chained spot m) v
@@ -262,16 +264,16 @@ module _ (objects : List Shape) (scope : Scope) where
         (gather-finds g (judge c locals 0 e) known fs (whole-before more (gather g (judge c locals 0 e)) h)) h
 
     gathered-whole : (form : List TypedExpression → TypedForm) (spot : Spot) (g : Gathered) (v : Valued) →
-        object_in (form g.all) ≡ None →
+        object_in (form g.all) ≡ None → ((d : Does) → whole_form objects (form g.all) d spot.line ≡ d) →
         (g.whole ≡ true → FoundIs scope [] (found_form objects (form g.all) spot.line)) →
         (gathered_value form spot g).known ≡ Some v → Whole objects scope (gathered_value form spot g) v
-    gathered-whole form spot g v o f h = go g.whole refl h
+    gathered-whole form spot g v o q f h = go g.whole refl h
       where
         go : (w : Bool) → g.whole ≡ w → (if w then Some (int_value (form g.all) spot) else None) ≡ Some v →
             Whole objects scope (gathered_value form spot g) v
         go false e x = never_some x
         go true e x =
-            whole-as objects scope _ v (some-is _ v x) (value-whole objects scope (form g.all) int false spot _ refl refl o (f e))
+            whole-as objects scope _ v (some-is _ v x) (value-whole objects scope (form g.all) int false spot _ refl refl o q (f e))
 
     pub both-whole : (all : Expressions) (spot : Spot) (v : Valued) →
         ((judge_operands c locals nothing_gathered all).whole ≡ true →
@@ -279,7 +281,7 @@ module _ (objects : List Shape) (scope : Scope) where
         (gathered_value both_form spot (judge_operands c locals nothing_gathered all)).known ≡ Some v →
         Whole objects scope (gathered_value both_form spot (judge_operands c locals nothing_gathered all)) v
     both-whole all spot v f h =
-        gathered-whole both_form spot (judge_operands c locals nothing_gathered all) v refl
+        gathered-whole both_form spot (judge_operands c locals nothing_gathered all) v refl (λ d. refl)
         (λ w. both-comes objects scope spot.line (f w)) h
 
     pub either-whole : (all : Expressions) (spot : Spot) (v : Valued) →
@@ -288,5 +290,5 @@ module _ (objects : List Shape) (scope : Scope) where
         (gathered_value either_form spot (judge_operands c locals nothing_gathered all)).known ≡ Some v →
         Whole objects scope (gathered_value either_form spot (judge_operands c locals nothing_gathered all)) v
     either-whole all spot v f h =
-        gathered-whole either_form spot (judge_operands c locals nothing_gathered all) v refl
+        gathered-whole either_form spot (judge_operands c locals nothing_gathered all) v refl (λ d. refl)
         (λ w. either-comes objects scope spot.line (f w)) h

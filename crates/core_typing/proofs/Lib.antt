@@ -6,6 +6,9 @@ pub mod Forms
 pub mod Lists
 pub mod Behind
 pub mod Made
+pub mod Acts
 pub mod Sound
 pub mod Judged
 pub mod JudgedChains
+pub mod Seen
+pub mod JudgedCalls

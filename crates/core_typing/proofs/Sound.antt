@@ -20,6 +20,9 @@ use Rattle.sc_core.specs.Expressions.{object_in, object_named, found, found_form
 use Rattle.sc_core.specs.Kinds.{Scope}
 use Rattle.core_typing.proofs.Types.{left_of, right_of, one_of, no_more, Points, points, Alike, same-stars, widens-alike}
 use Rattle.core_typing.proofs.Founds.{FoundIs}
+use Rattle.sc_core.specs.Core.{Does}
+use Rattle.sc_core.specs.Statements.{dropped, whole_form, whole}
+use Rattle.core_typing.proofs.Acts.{Acts, dropped-acts}
 use Rattle.core_typing.proofs.Finds.{Finds, finds-form, null-found, convert-found}
 
 -- it is a local, or a cell of the executing node's own memory or not, as typing tells; else it is used as a value alone
@@ -87,19 +90,28 @@ module _ (objects : List Shape) (scope : Scope) where
     pub taken : j.taken ≡ 0
     pub nameless : object_named v.expression ≡ None
     pub sound : Sound j.place v
+    pub acts : Acts scope (whole objects v.expression)
 
   pub whole-as : {j : Judgement} (v w : Valued) → v ≡ w → Whole j v → Whole j w
   whole-as {j = j} v w e h = subst (λ (v : Valued). Whole j v) e h
 
   -- an expression that is no place
-  pub value-whole : (form : TypedForm) (ty : Ty) (n : Bool) (spot : Spot) (j : Judgement) → j.taken ≡ 0 →
+  pub acting-whole : (form : TypedForm) (ty : Ty) (n : Bool) (spot : Spot) (j : Judgement) → j.taken ≡ 0 →
       j.place ≡ place.NoPlace → object_in form ≡ None → FoundIs scope ty.stars (found_form objects form spot.line) →
-      Whole j (valued form ty n spot)
-  value-whole form ty n spot j t p o f = record {
+      ((d : Does) → Acts scope d → Acts scope (whole_form objects form d spot.line)) → Whole j (valued form ty n spot)
+  acting-whole form ty n spot j t p o f a = record {
     taken = t;
     nameless = o;
     sound = record { finds = finds-form objects scope f; placed = rw p nowhere };
+    acts = a (dropped objects (typed_expression form ty spot.start spot.at spot.line)) (dropped-acts objects scope (finds-form objects scope f));
   }
+
+  -- one whose value is let go where it is a whole statement
+  pub value-whole : (form : TypedForm) (ty : Ty) (n : Bool) (spot : Spot) (j : Judgement) → j.taken ≡ 0 →
+      j.place ≡ place.NoPlace → object_in form ≡ None → ((d : Does) → whole_form objects form d spot.line ≡ d) →
+      FoundIs scope ty.stars (found_form objects form spot.line) → Whole j (valued form ty n spot)
+  value-whole form ty n spot j t p o q f =
+      acting-whole form ty n spot j t p o f (λ d a. subst (λ (s : Does). Acts scope s) (sym (q d)) a)
 
   -- ---- an expression as one of a type that it fits
 
