@@ -22,10 +22,10 @@ use Rattle.core_typing.proofs.Founds.{FoundIs, a_value, a_cell, fetched-gives, b
 use Rattle.core_typing.proofs.Finds.{Finds, value-gives}
 use Rattle.core_typing.proofs.Forms.{Operates, stepped-after-is}
 
-same-number : (n : ℕ) → nat_eq n n ≡ true
+pub same-number : (n : ℕ) → nat_eq n n ≡ true
 same-number n = grind arith
 
-other-number : (m n : ℕ) → m + 1 ≡ n → nat_eq m n ≡ false
+pub other-number : (m n : ℕ) → m + 1 ≡ n → nat_eq m n ≡ false
 other-number m n h = grind arith
 
 module _ (objects : List Shape) (scope : Scope) where

@@ -12,3 +12,4 @@ pub mod Judged
 pub mod JudgedChains
 pub mod Seen
 pub mod JudgedCalls
+pub mod JudgedNames
