@@ -13,3 +13,5 @@ pub mod JudgedChains
 pub mod Seen
 pub mod JudgedCalls
 pub mod JudgedNames
+pub mod JudgedTails
+pub mod Values
