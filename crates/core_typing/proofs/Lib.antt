@@ -15,3 +15,5 @@ pub mod JudgedCalls
 pub mod JudgedNames
 pub mod JudgedTails
 pub mod Values
+pub mod Counts
+pub mod Scopes
