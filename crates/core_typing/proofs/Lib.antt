@@ -17,3 +17,6 @@ pub mod JudgedTails
 pub mod Values
 pub mod Counts
 pub mod Scopes
+pub mod Declarations
+pub mod Splits
+pub mod Turns
