@@ -20,3 +20,4 @@ pub mod Scopes
 pub mod Declarations
 pub mod Splits
 pub mod Turns
+pub mod Stated

@@ -77,6 +77,11 @@ other-there (place.Memory (Some s)) (value e) p h = elim p [ ]
 other-there (place.Memory (Some s)) (local x line) p h = elim p [ ]
 other-there (place.Memory (Some s)) (cell pointer own line) (as_memory e) h = other-cell s pointer own line e h
 
+-- what a split assignment does
+pub data IsSplit (left right : Judgement) : Type 0 where
+  is_put : Rules.puts left right ≡ true → IsSplit left right
+  is_get : Rules.gets left right ≡ true → IsSplit left right
+
 module _ (objects : List Shape) (scope : Scope) where
   -- a value is sent to the place
   sends : {ss : List Star} {left : Found} {e : TypedExpression} (one_way : Bool) (line : ℕ) → FoundIs scope ss left →
@@ -128,11 +133,6 @@ module _ (objects : List Shape) (scope : Scope) where
       go (cell pointer true at_right) same r w l o = elim w [ ]
       go (value v) same r w l o = elim w [ ]
       go (local x at) same r w l o = elim w [ ]
-
-  -- what a split assignment does
-  pub data IsSplit (left right : Judgement) : Type 0 where
-    is_put : Rules.puts left right ≡ true → IsSplit left right
-    is_get : Rules.gets left right ≡ true → IsSplit left right
 
   same-types : (left right : Judgement) (a b : Valued) → left.known ≡ Some a → right.known ≡ Some b →
       Rules.same_types left right ≡ true → same_type b.ty a.ty ≡ true
