@@ -21,3 +21,4 @@ pub mod Declarations
 pub mod Splits
 pub mod Turns
 pub mod Stated
+pub mod Bodies

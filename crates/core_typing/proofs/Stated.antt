@@ -81,7 +81,7 @@ evaluated w p it s e u ev =
     there (judge w.source s.locals 0 e)
     (unbroken-typed w.source s.locals 0 e (λ b h. u b (in_expression ev h)))
 
-uses : (w : Within) (p : Place) (it : Statement) (s : typing.Scope) (e : Expression) → Unbroken w p it →
+pub uses : (w : Within) (p : Place) (it : Statement) (s : typing.Scope) (e : Expression) → Unbroken w p it →
     Uses p.scope s e it → There (judge w.source s.locals 0 e)
 uses w p it s e u h = evaluated w p it s e u (used h)
 
@@ -100,7 +100,7 @@ module _ (w : Within) where
   -- ---- expressions in statements
 
   -- what stands in the tree for an expression that is used
-  value-finds : (scope : Scope) (s : typing.Scope) (e : Expression) → Sees w.source scope → AllBegun scope s.locals →
+  pub value-finds : (scope : Scope) (s : typing.Scope) (e : Expression) → Sees w.source scope → AllBegun scope s.locals →
       HasNumbers e → (t : There (judge w.source s.locals 0 e)) →
       Finds w.source.objects scope (t.of).ty.stars (typed_value w.source s e)
   unfolding typed_value
@@ -130,7 +130,7 @@ module _ (w : Within) where
         (behind.after s it).locals
 
   -- a statement that leaves no local in scope
-  stated-as : (scope : Scope) (looped : Bool) (s : typing.Scope) (it : Statement) → IsNoDeclaration it → IsProper it →
+  pub stated-as : (scope : Scope) (looped : Bool) (s : typing.Scope) (it : Statement) → IsNoDeclaration it → IsProper it →
       AllBegun scope s.locals →
       IsTypedDoes scope result looped looped (does_of w.source.objects w.result s.count (typed_statement w s it)) →
       Stated scope looped s it
@@ -145,7 +145,7 @@ module _ (w : Within) where
 
   -- ---- statements without parts
 
-  simple-stated : (scope : Scope) (looped : Bool) (from : ℕ) (s : typing.Scope) (e : Expression) → Sees w.source scope →
+  pub simple-stated : (scope : Scope) (looped : Bool) (from : ℕ) (s : typing.Scope) (e : Expression) → Sees w.source scope →
       HasNumbers e → AllBegun scope s.locals → Unbroken w (place looped from s) (simple e) →
       IsTypedDoes scope result looped looped (does_of w.source.objects w.result s.count (typed_statement w s (simple e)))
   unfolding does_of typed_value
@@ -156,7 +156,7 @@ module _ (w : Within) where
       subst (λ (o : Option Valued). IsTypedDoes scope result looped looped
       (statement.whole w.source.objects (standing_in j.start o))) (sym t.is) (a.does result looped looped)
 
-  split-stated : (scope : Scope) (looped : Bool) (from : ℕ) (s : typing.Scope) (left right : Expression) (oneway : Bool)
+  pub split-stated : (scope : Scope) (looped : Bool) (from : ℕ) (s : typing.Scope) (left right : Expression) (oneway : Bool)
       (at line : ℕ) → Sees w.source scope → HasNumbers left → HasNumbers right → AllBegun scope s.locals →
       Unbroken w (place looped from s) (split left right oneway at line) →
       IsSplit (judge w.source s.locals 0 left) (judge w.source s.locals 0 right) →
@@ -171,7 +171,7 @@ module _ (w : Within) where
       line a.is b.is (known-value w.source scope sees s.locals begun left n a.of a.is).sound
       (known-value w.source scope sees s.locals begun right m b.of b.is).sound is).does result looped looped
 
-  splits : (looped : Bool) (from : ℕ) (s : typing.Scope) (left right : Expression) (oneway : Bool) (at line : ℕ) →
+  pub splits : (looped : Bool) (from : ℕ) (s : typing.Scope) (left right : Expression) (oneway : Bool) (at line : ℕ) →
       Unbroken w (place looped from s) (split left right oneway at line) →
       IsSplit (judge w.source s.locals 0 left) (judge w.source s.locals 0 right)
   splits looped from s left right true at line u =
@@ -201,7 +201,7 @@ module _ (w : Within) where
       (standing-met w.source.objects scope j w.result t.is
       (known-value w.source scope sees s.locals begun e n t.of t.is).sound fit)).has
 
-  return-stated : (scope : Scope) (looped : Bool) (from : ℕ) (s : typing.Scope) (value : Option Expression) (at line : ℕ) →
+  pub return-stated : (scope : Scope) (looped : Bool) (from : ℕ) (s : typing.Scope) (value : Option Expression) (at line : ℕ) →
       Sees w.source scope → IfGiven value → AllBegun scope s.locals →
       Unbroken w (place looped from s) (return value at line) →
       IsTypedDoes scope result looped looped
@@ -210,13 +210,13 @@ module _ (w : Within) where
   return-stated scope looped from s value at line sees n begun u =
       returned-typed scope looped from s value at line sees n begun u
 
-  jump-stated : (scope : Scope) (looped : Bool) (from : ℕ) (s : typing.Scope) (at : ℕ) →
+  pub jump-stated : (scope : Scope) (looped : Bool) (from : ℕ) (s : typing.Scope) (at : ℕ) →
       Unbroken w (place looped from s) (break at) →
       IsTypedDoes scope result looped looped (does_of w.source.objects w.result s.count (typed_statement w s (break at)))
   unfolding does_of
   jump-stated scope looped from s at u = kept looped (λ h. u _ (here (StatementBreaks.break_outside h)))
 
-  turn-stated : (scope : Scope) (looped : Bool) (from : ℕ) (s : typing.Scope) (at : ℕ) →
+  pub turn-stated : (scope : Scope) (looped : Bool) (from : ℕ) (s : typing.Scope) (at : ℕ) →
       Unbroken w (place looped from s) (continue at) →
       IsTypedDoes scope result looped looped (does_of w.source.objects w.result s.count (typed_statement w s (continue at)))
   unfolding does_of
@@ -235,7 +235,7 @@ module _ (w : Within) where
             (kept (Rules.fit j.known l.ty) (λ x. u _ (here (StatementBreaks.initial_unfit i h x))));
       }
 
-  declare-stated : (scope : Scope) (looped : Bool) (from : ℕ) (s : typing.Scope) (locals : List Declared) →
+  pub declare-stated : (scope : Scope) (looped : Bool) (from : ℕ) (s : typing.Scope) (locals : List Declared) →
       Sees w.source scope → IsProper (declare locals) → AllBegun scope s.locals →
       Numbered scope s.count (types_in (typed_statement w s (declare locals))) →
       Unbroken w (place looped from s) (declare locals) → Stated scope looped s (declare locals)
@@ -288,7 +288,7 @@ module _ (w : Within) where
   abbrev Body : Scope → typing.Scope → Statement → Type 0
   Body scope s body = IsTypedDoes scope result true true (does_of w.source.objects w.result s.count (typed_statement w s body))
 
-  while-stated : (scope : Scope) (looped : Bool) (from : ℕ) (s : typing.Scope) (test : Expression) (body : Statement) →
+  pub while-stated : (scope : Scope) (looped : Bool) (from : ℕ) (s : typing.Scope) (test : Expression) (body : Statement) →
       Sees w.source scope → HasNumbers test → AllBegun scope s.locals →
       Unbroken w (place looped from s) (while_ test body) → Body scope s body →
       IsTypedDoes scope result looped looped
@@ -298,7 +298,7 @@ module _ (w : Within) where
       (tested-typed scope s test sees begun n
       (uses w (place looped from s) (while_ test body) s test u (tested parts.of_while)), b, tt)
 
-  do-stated : (scope : Scope) (looped : Bool) (from : ℕ) (s : typing.Scope) (body : Statement) (test : Expression) →
+  pub do-stated : (scope : Scope) (looped : Bool) (from : ℕ) (s : typing.Scope) (body : Statement) (test : Expression) →
       Sees w.source scope → HasNumbers test → AllBegun scope (behind.after s body).locals →
       Unbroken w (place looped from s) (do_while body test) → Body scope s body →
       IsTypedDoes scope result looped looped
@@ -308,7 +308,7 @@ module _ (w : Within) where
       (tt, b, tested-typed scope (behind.after s body) test sees begun n
       (uses w (place looped from s) (do_while body test) (behind.after s body) test u (tested parts.of_do)))
 
-  for-stated : (scope : Scope) (looped : Bool) (from : ℕ) (s : typing.Scope) (first test next : Option Expression)
+  pub for-stated : (scope : Scope) (looped : Bool) (from : ℕ) (s : typing.Scope) (first test next : Option Expression)
       (body : Statement) → Sees w.source scope → IfGiven first → IfGiven test → IfGiven next → AllBegun scope s.locals →
       Unbroken w (place looped from s) (for_ first test next body) → Body scope s body →
       IsTypedDoes scope result looped looped
@@ -361,7 +361,7 @@ module _ (w : Within) where
         goes_on = refl;
       }, b, tt)
 
-  mine-stated : (scope : Scope) (looped : Bool) (from : ℕ) (s : typing.Scope) (n : ℕ) (bound : Expression)
+  pub mine-stated : (scope : Scope) (looped : Bool) (from : ℕ) (s : typing.Scope) (n : ℕ) (bound : Expression)
       (body : Statement) (at line : ℕ) → Sees w.source scope → HasNumbers bound → AllBegun scope s.locals →
       Unbroken w (place looped from s) (for_mine n bound body at line) → Body scope s body →
       IsTypedDoes scope result looped looped
