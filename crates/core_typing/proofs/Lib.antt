@@ -22,3 +22,4 @@ pub mod Splits
 pub mod Turns
 pub mod Stated
 pub mod Bodies
+pub mod Sources

@@ -71,7 +71,7 @@ there j h = go j.known refl h
     go None e h = no_more h
     go (Some v) e h = record { of = v; is = e }
 
-kept : (t : Bool) → (t ≡ false → ⊥) → t ≡ true
+pub kept : (t : Bool) → (t ≡ false → ⊥) → t ≡ true
 kept true h = refl
 kept false h = absurd (h refl)
 
