@@ -231,3 +231,117 @@ module _ (c : Source) where
       subst
       (λ (k : ℕ). IsTypedDoes scope (kind_of_type f.result) false false
       (all_of c.objects f.result k (typed_statements_of (typed_all (within c f) (body_scope f) all)))) (body-count f) h
+
+  -- nothing is broken in the bodies of these functions
+  abbrev BodiesUnbroken : List PlainFunction → Type 0
+  BodiesUnbroken fs =
+      (f : PlainFunction) → Contains fs f → (all : Statements) → f.body ≡ Some all →
+      AllUnbroken (within c f) false 0 (body_scope f) all
+
+  functions-typed : (p : Program) → Sourced p → (fs : List PlainFunction) →
+      All (λ (f : PlainFunction). IsProperBody f.body) fs → BodiesUnbroken fs →
+      All (IsTypedFunction c.objects p) (cores fs)
+  functions-typed p is [] proper u = All-nil (IsTypedFunction c.objects p)
+  functions-typed p is (f ∷ fs) proper u =
+      go f.body refl
+      (functions-typed p is fs (All-tail (λ (f : PlainFunction). IsProperBody f.body) f fs proper)
+      (λ g i. u g (in-rest f g fs i)))
+    where
+      go : (o : Option Statements) → f.body ≡ o → All (IsTypedFunction c.objects p) (cores fs) →
+          All (IsTypedFunction c.objects p) (cores (f ∷ fs))
+      go None e h = subst (λ (gs : List Function). All (IsTypedFunction c.objects p) gs) (sym (cores-none f fs e)) h
+      go (Some all) e h =
+          subst (λ (gs : List Function). All (IsTypedFunction c.objects p) gs) (sym (cores-some f fs all e))
+          (All-cons (IsTypedFunction c.objects p) (function-of f all) (cores fs)
+          (function-typed p f all is
+          (subst (λ (o : Option Statements). IsProperBody o) e
+          (All-head (λ (f : PlainFunction). IsProperBody f.body) f fs proper)) (u f (at-first f fs) all e)) h)
+
+-- ---- the function that is begun with
+
+main-text : (names : List Text) (n : ℕ) → bytes_eq (name_text names n) (codes "splitc_main") ≡ is_main names n
+main-text names n = go (slice_get names n)
+  where
+    go : (o : Option Text) →
+        bytes_eq (option_map_or (λ text. text) o []) (codes "splitc_main")
+        ≡ option_map_or (λ text. bytes_eq text (codes "splitc_main")) o false
+    go None = refl
+    go (Some t) = refl
+
+finds-main : (names : List Text) (ds : List Definition) (d : Definition) →
+    find (λ (d : Definition). is_main names d.name) ds ≡ Some d →
+    slice_get ds (main_in (map (λ (d : Definition). name_text names d.name) ds)) ≡ Some d
+finds-main names [] d h = never_some h
+finds-main names (e ∷ ds) d h = go (finds-main names ds d) (is_main names e.name) (main-text names e.name) h
+  where
+    go : (find (λ (d : Definition). is_main names d.name) ds ≡ Some d →
+        slice_get ds (main_in (map (λ (d : Definition). name_text names d.name) ds)) ≡ Some d) → (t : Bool) →
+        bytes_eq (name_text names e.name) (codes "splitc_main") ≡ t →
+        cond t (Some e) (find (λ (d : Definition). is_main names d.name) ds) ≡ Some d →
+        slice_get (e ∷ ds) (main_in (map (λ (d : Definition). name_text names d.name) (e ∷ ds))) ≡ Some d
+    go further true same x = rw same x
+    go further false same x = rw same (further x)
+
+-- the definition that is begun with, which takes nothing
+record Main (c : Source) : Type 0 where
+  pub definition : Definition
+  pub is : main_definition c ≡ Some definition
+  pub no_params : definition.params ≡ []
+
+main-there : (c : Source) → main_kept (main_definition c) ≡ true → Main c
+main-there c h = go (main_definition c) refl h
+  where
+    none_of : (ts : List Ty) → no_types ts ≡ true → ts ≡ []
+    none_of [] x = refl
+    none_of (t ∷ ts) x = no_more x
+
+    go : (o : Option Definition) → main_definition c ≡ o → main_kept o ≡ true → Main c
+    go None e x = no_more x
+    go (Some d) e x = record { definition = d; is = e; no_params = none_of d.params (left_of (no_types d.params) _ x) }
+
+-- the texts behind the formats are the functions' names
+last-texts : (xs ys : List Text) (n : ℕ) → n ≡ length ys → drop (length (xs ++ ys) - n) (xs ++ ys) ≡ ys
+last-texts xs ys n same =
+    let e : length (xs ++ ys) - n ≡ length xs = omega (arith, length-append xs ys, same) in
+    rw e (drop-append_seam xs ys)
+
+name-count : (names : List Text) (ds : List Definition) → length (map (λ (d : Definition). name_text names d.name) ds) ≡ length ds
+name-count names [] = refl
+name-count names (d ∷ ds) = ap suc (name-count names ds)
+
+module _ (tree : PlainTree) (names texts : List Text) where
+  abbrev c : Source
+  c = source_of_tree tree names texts
+
+  abbrev p : Program
+  p = core_of (typed_of tree names texts)
+
+  main-number : p.main ≡ main_in (map (λ (d : Definition). name_text names d.name) c.definitions)
+  main-number =
+      ap main_in
+      (last-texts texts (map (λ (d : Definition). name_text names d.name) c.definitions) (length p.functions)
+      (cores-count c tree.functions ∙ sym (name-count names c.definitions)))
+
+  sourced : Sourced c p
+  sourced = record {
+    functions = λ n d h. finds-definition c tree.functions n d h;
+    texts = (let e = length-append texts (map (λ (d : Definition). name_text names d.name) c.definitions) in omega (arith, e));
+  }
+
+  unbroken : IsWellTyped tree names texts → BodiesUnbroken c tree.functions
+  unbroken typed f i all e =
+      record { is = λ there it at b h. typed b (FileBreaks.in_function i (FunctionBreaks.in_body e at h)) }
+
+  pub cores-typed : IsProperTree tree → IsWellTyped tree names texts → IsTyped tree.objects p
+  cores-typed proper typed =
+      let m =
+          main-there c
+          (kept (main_kept (main_definition c)) (λ h. typed _ (FileBreaks.no_main h refl))) in
+      let f = finds-definition c tree.functions (main_in (map (λ (d : Definition). name_text names d.name) c.definitions))
+          m.definition (finds-main names c.definitions m.definition m.is) in
+      record {
+        functions = functions-typed c p sourced tree.functions proper (unbroken typed);
+        main = f.function;
+        begins = subst (λ (n : ℕ). slice_get p.functions n ≡ Some f.function) (sym main-number) f.there;
+        no_params = f.is.params ∙ m.no_params;
+      }
