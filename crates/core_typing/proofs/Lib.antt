@@ -23,3 +23,6 @@ pub mod Turns
 pub mod Stated
 pub mod Bodies
 pub mod Sources
+pub mod SmallTokens
+pub mod ProperExpressions
+pub mod ProperTrees
