@@ -1,24 +1,22 @@
 -- What expressions do as whole statements.
-use Rattle.std.proofs.Common.{◌≡◌, refl, sym, ◌∙◌, ap, subst, ℕ, zero, suc, ◌+◌, ◌<◌, arith, Bool, true, false, List, [], ◌∷◌, ◌++◌, length}
-use Rattle.std.specs.Prelude.{Option, Some, None, map, replicate}
+use Rattle.std.proofs.Common.{◌≡◌, refl, ap, subst, ℕ, zero, suc, ◌<◌, Bool, List, [], ◌∷◌}
+use Rattle.std.specs.Prelude.{map, replicate}
 use Rattle.std.proofs.lemmas.List.{length-replicate}
 use Rattle.sc_base.specs.declared.shape.Star.{Star}
 use Rattle.sc_base.specs.declared.shape.Shape.{Shape}
-use Rattle.sc_base.specs.declared.shape.Ty.{Ty}
 use Rattle.sc_base.specs.declared.value.CopyMode.{CopyMode}
-use Rattle.sc_tree.specs.PlainTyped.{TypedExpression, typed_expression, TypedForm}
-use Rattle.sc_tree.specs.PlainTyped as typed
+use Rattle.sc_tree.specs.PlainTyped.{TypedExpression}
 use Rattle.sc_tree.specs.ViewTyped.{typed_expressions_of}
 use Rattle.sc_typing.specs.Types.{int}
 use Rattle.sc_core.specs.declared.operation.Action.{Action}
 use Rattle.sc_core.specs.declared.operation.Action.TheVariants as does
-use Rattle.sc_core.specs.Core.{Core, step, Arguments, none, argument, Does, act}
-use Rattle.sc_core.specs.Places.{Found, value, local, cell, reaching, is_own}
-use Rattle.sc_core.specs.Expressions.{type_of, star_of, count_of, line_of, value_of, values_of, found}
+use Rattle.sc_core.specs.Core.{Core, Arguments, Does, act}
+use Rattle.sc_core.specs.Places.{Found, is_own}
+use Rattle.sc_core.specs.Expressions.{star_of, count_of, line_of, values_of}
 use Rattle.sc_core.specs.Statements.{act_on, filled, assigning, transferred, copying, dropped}
 use Rattle.sc_core.specs.Kinds.{Kind, number, to, kind_of, kind_of_type, Scope, HasBegun, IsLocal, IsPlaceOf, Uses, numbers}
 use Rattle.sc_core.specs.Kinds as kinds
-use Rattle.sc_core.specs.Typed.{Has, Have, IsTypedDoes}
+use Rattle.sc_core.specs.Typed.{IsTypedDoes}
 use Rattle.core_typing.proofs.Cores.{Gives, GiveAll, gives-as, no-arguments, one-more}
 use Rattle.core_typing.proofs.Founds.{Reaches, FoundIs, a_value, a_local, a_cell, cell-pointed}
 use Rattle.core_typing.proofs.Finds.{Finds, value-gives}

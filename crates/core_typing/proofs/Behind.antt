@@ -1,23 +1,20 @@
 -- What postfix expressions come to: an object with its indices, and what stands behind any other part.
-use Rattle.std.proofs.Common.{◌≡◌, refl, sym, ◌∙◌, ap, subst, ℕ, zero, suc, ◌+◌, arith, Bool, true, false, ◌&&◌, List, [], ◌∷◌, ◌++◌, length, append_assoc, append-nil}
-use Rattle.std.specs.Prelude.{Option, Some, None, slice_get, not, nat_eq, if◌then◌else◌}
+use Rattle.std.proofs.Common.{◌≡◌, refl, sym, ◌∙◌, ap, subst, ℕ, suc, ◌+◌, arith, Bool, true, false, ◌&&◌, List, [], ◌∷◌, ◌++◌, length, append_assoc, append-nil}
+use Rattle.std.specs.Prelude.{Some, None, slice_get, nat_eq}
 use Rattle.sc_base.specs.declared.operator.Binary.TheVariants as op
 use Rattle.sc_base.specs.declared.shape.Star.{Star}
-use Rattle.sc_base.specs.declared.shape.Star.TheVariants as star
-use Rattle.sc_base.specs.declared.shape.Bound.{Bound}
 use Rattle.sc_base.specs.declared.shape.Shape.{Shape}
 use Rattle.sc_tree.specs.declared.typed.Named.TheVariants as named_as
 use Rattle.sc_tree.specs.PlainTyped.{TypedExpression, TypedTail}
 use Rattle.sc_tree.specs.PlainTyped as typed
 use Rattle.sc_tree.specs.ViewTyped.{typed_tails_of}
-use Rattle.sc_core.specs.declared.operation.Operation.TheVariants as does
-use Rattle.sc_core.specs.Core.{Core, step, Arguments, none}
-use Rattle.sc_core.specs.Places.{Found, value, cell, fetched, last_of, without_last, with_two, dimensions_of, is_spread, object_with}
-use Rattle.sc_core.specs.Expressions.{type_of, star_of, line_of, value_of, found, found_form, object_named, with_object, is_plain, behind_all, indexed, stars_behind, indices_found, tails_found, tail_found}
+use Rattle.sc_core.specs.Core.{Arguments, none}
+use Rattle.sc_core.specs.Places.{Found, without_last, dimensions_of, object_with}
+use Rattle.sc_core.specs.Expressions.{type_of, line_of, value_of, found, found_form, object_named, is_plain, behind_all, stars_behind, indices_found, tails_found, tail_found}
 use Rattle.sc_core.specs.Kinds.{Kind, number, to, kind_of, Scope, HasIndices, numbers}
 use Rattle.sc_core.specs.Kinds as kinds
 use Rattle.core_typing.proofs.Types.{Points, kind-push}
-use Rattle.core_typing.proofs.Cores.{Gives, GiveAll, gives-as, no-arguments, one-number-more, gives-step, gives-two}
+use Rattle.core_typing.proofs.Cores.{GiveAll, gives-as, no-arguments, one-number-more, gives-step, gives-two}
 use Rattle.core_typing.proofs.Founds.{FoundIs, a_value, a_cell, fetched-gives, behind-is, cell-named}
 use Rattle.core_typing.proofs.Finds.{Finds, value-gives}
 use Rattle.core_typing.proofs.Forms.{Operates, stepped-after-is}
@@ -134,7 +131,6 @@ module _ (objects : List Shape) (scope : Scope) where
       go l more =
           rw (append_assoc rest (typed.index e at line ∷ []) more) (w.goes_on l (typed.index e at line ∷ more))
 
-
   -- the object with all its indices, or with all but the last
   pub object-whole : (o : ℕ) (plain : Bool) {indices : Arguments} (line count : ℕ) (s : Shape) →
       slice_get objects o ≡ Some s → slice_get scope.objects o ≡ Some s → count ≡ length s.left + length s.right →
@@ -156,11 +152,11 @@ module _ (objects : List Shape) (scope : Scope) where
       bounds = record { enough = omega (arith, same); not_more = omega (arith, same) }
 
   -- all indices stand, and what follows stands behind the object's cell
-  pub own-all : {first : TypedExpression} {rest : List TypedTail} {ss : List Star} {o count : ℕ} (s : Shape) →
+  pub own-all : {first : TypedExpression} {rest : List TypedTail} {ss : List Star} {o count : ℕ} →
       (w : Own first rest ss o 0 count) → FoundIs scope ss (object_with objects o count w.plain w.indices w.at) →
       Runs first rest ss (object_with objects o count w.plain w.indices w.at)
   unfolding indices_found tails_found
-  own-all {first = first} {rest = rest} {ss = ss} {o = o} {count = count} s w f = record { goes_on = go; is = f }
+  own-all {first = first} {rest = rest} {ss = ss} {o = o} {count = count} w f = record { goes_on = go; is = f }
     where
       ends : (more : List TypedTail) →
           indices_found objects o 0 count w.plain w.indices w.at ss (typed_tails_of more)

@@ -1,7 +1,7 @@
 -- Statements in which nothing is broken are typed in the core, by induction over them.
-use Rattle.std.proofs.Common.{◌≡◌, refl, sym, ◌∙◌, ap, subst, ℕ, ◌+◌, Bool, true, false, List, [], ◌∷◌, ◌++◌, length}
+use Rattle.std.proofs.Common.{◌≡◌, sym, subst, ℕ, ◌+◌, Bool, true, List, length}
 use Rattle.sc_tree.specs.Plain.{Expression}
-use Rattle.sc_tree.specs.PlainStmt.{Declared, Statement, block, empty, declare, simple, split, choose, choose_else, while_, do_while, for_, for_mine, return, break, continue, Statements, no_statements, statements, Arm, arm, Arms, no_arms, arms}
+use Rattle.sc_tree.specs.PlainStmt.{Statement, block, empty, declare, simple, split, choose, choose_else, while_, do_while, for_, for_mine, return, break, continue, Statements, no_statements, statements, arm, Arms, no_arms, arms}
 use Rattle.sc_tree.specs.ViewTypedStmt.{typed_statements_of, typed_arms_of}
 use Rattle.sc_typing.specs.declared.scope.InScope.{InScope}
 use Rattle.sc_typing.specs.Scope as typing
@@ -15,7 +15,7 @@ use Rattle.sc_core.specs.Core.{Does, nothing}
 use Rattle.sc_core.specs.Lowering.{types_in, types_of, types_of_arms, does_of, all_of, arms_of}
 use Rattle.sc_core.specs.Kinds.{Kind, kind_of_type, Scope}
 use Rattle.sc_core.specs.Typed.{after, IsTypedDoes}
-use Rattle.core_typing.specs.Proper.{HasNumbers, IsNoDeclaration, IsProper, AreProper, ArmsAreProper}
+use Rattle.core_typing.specs.Proper.{NumbersFit, IsNoDeclaration, IsProper, AreProper, ArmsAreProper}
 use Rattle.core_typing.proofs.Seen.{Sees, AllBegun}
 use Rattle.core_typing.proofs.Counts.{keeps, kept-locals, arms-keep, count-of, count-of-arms}
 use Rattle.core_typing.proofs.Scopes.{sees-after, Numbered, numbered-after, numbered-front, numbered-back, then-typed, choose-typed}
@@ -96,7 +96,7 @@ module _ (w : Within) where
   no-arms-typed scope looped s otherwise h = h
 
   one-arm-typed : (scope : Scope) (looped : Bool) (s : typing.Scope) (test : Expression) (body : Statement) (more : Arms)
-      (otherwise : Does) → Sees w.source scope → AllBegun scope s.locals → HasNumbers test →
+      (otherwise : Does) → Sees w.source scope → AllBegun scope s.locals → NumbersFit test →
       There (judge w.source s.locals 0 test) → Typed scope looped s body →
       ArmsTyped scope looped (behind.after s body) more otherwise →
       ArmsTyped scope looped s (arms (arm test body) more) otherwise
@@ -222,8 +222,8 @@ mutual
       let first = does_of w.source.objects w.result s.count (typed_statement w s one) in
       let rest = types_of (typed_statements_of (typed_all w (behind.after s one) more)) in
       let h =
-          stated w scope sees looped from s one p.0 begun (numbered-front (types_in (typed_statement w s one)) rest n)
-          (u.is s one parts.InSequence.at_front) in
+      stated w scope sees looped from s one p.0 begun (numbered-front (types_in (typed_statement w s one)) rest n)
+      (u.is s one parts.InSequence.at_front) in
       one-typed w scope looped s one more h
       (all-typed w (after scope first) (sees-after w.source scope first sees) looped from (behind.after s one) more p.1
       h.begun

@@ -1,17 +1,15 @@
 -- What steps of a core tree have, from what their arguments have.
-use Rattle.std.proofs.Common.{◌≡◌, refl, sym, ◌∙◌, ap, subst, ℕ, zero, suc, ◌+◌, arith, Bool, true, false, List, [], ◌∷◌}
-use Rattle.std.specs.Prelude.{Option, Some, None, pos, FitsSigned}
+use Rattle.std.proofs.Common.{◌≡◌, refl, subst, ℕ, zero, suc, arith, true, false, List, [], ◌∷◌}
+use Rattle.std.specs.Prelude.{Option, pos, FitsSigned}
 use Rattle.std.specs.Int.{w64}
 use Rattle.std.proofs.lemmas.Int.{fits_signed_from_abs}
-use Rattle.sc_base.specs.declared.operator.Binary.{Binary}
 use Rattle.sc_base.specs.declared.shape.Star.{Star}
 use Rattle.sc_core.specs.declared.operation.Constant.TheVariants.{Number}
 use Rattle.sc_core.specs.declared.operation.Operation.{Operation}
-use Rattle.sc_core.specs.declared.operation.Operation.TheVariants as does
 use Rattle.sc_core.specs.Core.{Core, constant, step, choice, update, Arguments, none, argument}
 use Rattle.sc_core.specs.Places.{number_one, number_zero, with_one, with_two}
 use Rattle.sc_core.specs.Expressions.{behind_all}
-use Rattle.sc_core.specs.Kinds.{Kind, number, to, named, kind_of, Scope, HasBegun, IsConstant, of_number, IsPlaceOf, Computes, Takes, numbers}
+use Rattle.sc_core.specs.Kinds.{Kind, number, to, kind_of, Scope, of_number, IsPlaceOf, Computes, Takes, numbers}
 use Rattle.sc_core.specs.Typed.{Has, Have, IsValue, TakesBack}
 
 -- the expression has values of this kind

@@ -1,15 +1,14 @@
 -- The locals in scope behind a statement, and how many it declares: typing numbers them as the core does.
-use Rattle.std.proofs.Common.{◌≡◌, refl, sym, ◌∙◌, ap, subst, ℕ, zero, suc, ◌+◌, arith, Bool, true, false, List, [], ◌∷◌, ◌++◌, length, take, append_assoc, append-nil, length-append}
-use Rattle.std.specs.Prelude.{Option, Some, None, map}
-use Rattle.sc_base.specs.declared.shape.Ty.{Ty}
+use Rattle.std.proofs.Common.{◌≡◌, refl, sym, ◌∙◌, ap, ℕ, ◌+◌, arith, Bool, List, [], ◌∷◌, ◌++◌, length, take, append_assoc, append-nil, length-append}
+use Rattle.std.specs.Prelude.{map}
 use Rattle.sc_tree.specs.Plain.{Expression}
-use Rattle.sc_tree.specs.PlainStmt.{Declared, Statement, block, empty, declare, simple, split, choose, choose_else, while_, do_while, for_, for_mine, return, break, continue, Statements, no_statements, statements, Arm, arm, Arms, no_arms, arms}
-use Rattle.sc_tree.specs.PlainTypedStmt.{TypedDeclared, TypedStatement}
+use Rattle.sc_tree.specs.PlainStmt.{Declared, Statement, block, empty, declare, simple, split, choose, choose_else, while_, do_while, for_, for_mine, return, break, continue, Statements, no_statements, statements, arm, Arms, no_arms, arms}
+use Rattle.sc_tree.specs.PlainTypedStmt.{TypedDeclared}
 use Rattle.sc_tree.specs.ViewTypedStmt.{typed_statements_of, typed_arms_of}
 use Rattle.sc_typing.specs.declared.scope.InScope.{InScope}
 use Rattle.sc_typing.specs.Scope.{Scope, depth, with_declared, left_block}
 use Rattle.sc_typing.specs.Source.{Source}
-use Rattle.sc_typing.specs.Statements.{Within, after_declared, after_locals, after, after_all, after_arms, typed_local, typed_locals, typed_split, typed_statement, typed_all, typed_arms}
+use Rattle.sc_typing.specs.Statements.{Within, after_declared, after_locals, after, after_all, after_arms, typed_locals, typed_split, typed_statement, typed_all, typed_arms}
 use Rattle.sc_typing.specs.Typing.{judge}
 use Rattle.sc_core.specs.Lowering.{types_in, types_of, types_of_arms}
 use Rattle.core_typing.specs.Proper.{IsProper, AreProper, ArmsAreProper, IsNoDeclaration}

@@ -1,6 +1,6 @@
 -- Declarations: each local begins, with a value of its type.
-use Rattle.std.proofs.Common.{◌≡◌, refl, sym, ◌∙◌, ap, subst, ℕ, zero, suc, ◌+◌, ◌<◌, arith, Bool, true, false, List, [], ◌∷◌, ◌++◌, length}
-use Rattle.std.specs.Prelude.{Option, Some, None, map, slice_get}
+use Rattle.std.proofs.Common.{◌≡◌, refl, sym, subst, ℕ, ◌+◌, arith, Bool, true, List, [], ◌∷◌, ◌++◌}
+use Rattle.std.specs.Prelude.{Option, Some, None, map}
 use Rattle.std.specs.List.{Contains, All}
 use Rattle.std.proofs.lemmas.List.Elements.{All-head, All-tail}
 use Rattle.sc_base.specs.declared.shape.Star.{Star}
@@ -10,16 +10,15 @@ use Rattle.sc_tree.specs.Plain.{Expression}
 use Rattle.sc_tree.specs.PlainStmt.{Declared}
 use Rattle.sc_tree.specs.PlainTyped.{TypedExpression}
 use Rattle.sc_tree.specs.PlainTypedStmt.{TypedDeclared}
-use Rattle.sc_typing.specs.declared.scope.InScope.{InScope}
 use Rattle.sc_typing.specs.Source.{Source}
 use Rattle.sc_typing.specs.Scope as typing
 use Rattle.sc_typing.specs.Scope.{with_declared}
-use Rattle.sc_typing.specs.Known.{Valued, fits, Judgement, met_expression}
+use Rattle.sc_typing.specs.Known.{Valued, fits, Judgement}
 use Rattle.sc_typing.specs.Statements.{after_declared, after_locals, typed_initial, typed_local, typed_locals}
 use Rattle.sc_typing.specs.StatementParts.{InLocals, at_front, further}
 use Rattle.sc_typing.specs.Typing.{judge}
 use Rattle.sc_core.specs.declared.operation.Action.TheVariants as does
-use Rattle.sc_core.specs.Core.{Core, Does, act, then_, nothing}
+use Rattle.sc_core.specs.Core.{Core, Does, nothing}
 use Rattle.sc_core.specs.Places.{Found, value, local, cell, is_pointer, last_of}
 use Rattle.sc_core.specs.Expressions.{value_of, found}
 use Rattle.sc_core.specs.Statements
@@ -27,12 +26,12 @@ use Rattle.sc_core.specs.Statements.{act_on, filled, begun, declared}
 use Rattle.sc_core.specs.Kinds.{Kind, number, to, kind_of, kind_of_type, Scope, IsLocal, HasBegun, Uses}
 use Rattle.sc_core.specs.Kinds as kinds
 use Rattle.sc_core.specs.Typed.{begins, after, IsTypedDoes}
-use Rattle.core_typing.specs.Proper.{HasNumbers, IfGiven}
+use Rattle.core_typing.specs.Proper.{IfGiven}
 use Rattle.core_typing.proofs.Types.{points}
 use Rattle.core_typing.proofs.Cores.{no-arguments}
 use Rattle.core_typing.proofs.Finds.{Finds, value-gives}
 use Rattle.core_typing.proofs.Acts.{Acts, act-acts, act-one, filled-acts}
-use Rattle.core_typing.proofs.Sound.{Sound, standing-met}
+use Rattle.core_typing.proofs.Sound.{standing-met}
 use Rattle.core_typing.proofs.Seen.{Sees, AllBegun, none_begun, more_begun, begun-append}
 use Rattle.core_typing.proofs.Values.{known-value}
 use Rattle.core_typing.proofs.Scopes.{begun-after, begun-then, sees-after, Numbered, numbered-after, numbered-first, numbered-rest, then-typed}
@@ -109,22 +108,22 @@ module _ (c : Source) (result : Kind) (breaks continues : Bool) where
   declares (l ∷ more) scope s sees begun n numbers fit =
       let init = typed_initial c s l.ty l.init in
       let at_front_is =
-          initial scope s l.ty l.init sees begun (All-head (λ (l : Declared). IfGiven l.init) l more numbers)
-          (λ e h. fit s l e at_front h) in
+      initial scope s l.ty l.init sees begun (All-head (λ (l : Declared). IfGiven l.init) l more numbers)
+      (λ e h. fit s l e at_front h) in
       let x_is =
-          numbered-first s.count l.ty
-          (map (λ (l : TypedDeclared). l.ty) (typed_locals c (after_declared s l) more)) n in
+      numbered-first s.count l.ty
+      (map (λ (l : TypedDeclared). l.ty) (typed_locals c (after_declared s l) more)) n in
       let first : Does = Statements.begun c.objects s.count l.ty init l.line in
       let there = has-begun c.objects scope s.count l.ty init l.line x_is in
       let d =
-          declares more (after scope first) (after_declared s l) (sees-after c scope first sees)
-          (begun-append (after scope first) (begun-after scope first begun)
-          (more_begun {l = record { name = l.name; number = s.count; ty = l.ty }} there none_begun))
-          (numbered-after scope first
-          (numbered-rest s.count l.ty
-          (map (λ (l : TypedDeclared). l.ty) (typed_locals c (after_declared s l) more)) n))
-          (All-tail (λ (l : Declared). IfGiven l.init) l more numbers)
-          (λ there m e i h. fit there m e (further i) h) in
+      declares more (after scope first) (after_declared s l) (sees-after c scope first sees)
+      (begun-append (after scope first) (begun-after scope first begun)
+      (more_begun {l = record { name = l.name; number = s.count; ty = l.ty }} there none_begun))
+      (numbered-after scope first
+      (numbered-rest s.count l.ty
+      (map (λ (l : TypedDeclared). l.ty) (typed_locals c (after_declared s l) more)) n))
+      (All-tail (λ (l : Declared). IfGiven l.init) l more numbers)
+      (λ there m e i h. fit there m e (further i) h) in
       record {
         typed =
             then-typed result breaks continues scope first

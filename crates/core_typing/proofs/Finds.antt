@@ -1,16 +1,14 @@
 -- A typed expression comes to what its type says: this is kept for each form of expressions.
-use Rattle.std.proofs.Common.{◌≡◌, refl, sym, ◌∙◌, ap, subst, ℕ, Bool, true, false, List, [], ◌∷◌, ◌++◌}
-use Rattle.std.specs.Prelude.{Option, Some, None, if◌then◌else◌}
+use Rattle.std.proofs.Common.{◌≡◌, refl, sym, ◌∙◌, ap, subst, ℕ, List}
 use Rattle.sc_base.specs.declared.shape.Star.{Star}
 use Rattle.sc_base.specs.declared.shape.Shape.{Shape}
 use Rattle.sc_base.specs.declared.shape.Ty.{Ty}
 use Rattle.sc_tree.specs.PlainTyped.{TypedExpression, typed_expression, TypedForm}
 use Rattle.sc_tree.specs.PlainTyped as typed
-use Rattle.sc_core.specs.declared.operation.Constant.TheVariants.{Null}
-use Rattle.sc_core.specs.Core.{Core, constant}
-use Rattle.sc_core.specs.Places.{Found, value, fetched, last_of, without_last, is_pointer}
+use Rattle.sc_core.specs.Core.{Core}
+use Rattle.sc_core.specs.Places.{value, fetched, last_of, without_last}
 use Rattle.sc_core.specs.Expressions.{type_of, star_of, value_of, found, found_form}
-use Rattle.sc_core.specs.Kinds.{Kind, number, to, kind_of, Scope, of_null}
+use Rattle.sc_core.specs.Kinds.{to, kind_of, Scope, of_null}
 use Rattle.core_typing.proofs.Types.{Points, Alike}
 use Rattle.core_typing.proofs.Cores.{Gives, gives-as}
 use Rattle.core_typing.proofs.Founds.{FoundIs, a_value, fetched-gives, converted-gives}

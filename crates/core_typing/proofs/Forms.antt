@@ -1,6 +1,6 @@
 -- What the forms of expressions with a fixed number of operands come to.
 use Rattle.std.proofs.Common.{◌≡◌, refl, sym, ◌∙◌, ap, subst, ℕ, Bool, true, false, List, [], ◌∷◌, ◌++◌}
-use Rattle.std.specs.Prelude.{Option, Some, None, FitsSigned, if◌then◌else◌}
+use Rattle.std.specs.Prelude.{Option, Some, None, FitsSigned}
 use Rattle.std.specs.Int.{w64}
 use Rattle.sc_base.specs.declared.operator.Binary.{Binary}
 use Rattle.sc_base.specs.declared.operator.Binary.TheVariants as op
@@ -8,21 +8,19 @@ use Rattle.sc_base.specs.declared.operator.Unary.{Unary}
 use Rattle.sc_base.specs.declared.operator.Unary.TheVariants as unary
 use Rattle.sc_base.specs.declared.shape.Star.{Star}
 use Rattle.sc_base.specs.declared.shape.Shape.{Shape}
-use Rattle.sc_base.specs.declared.shape.Ty.{Ty}
 use Rattle.sc_tree.specs.declared.typed.Named.TheVariants as named_as
 use Rattle.sc_tree.specs.PlainTyped.{TypedExpression, typed_expression, TypedForm}
 use Rattle.sc_tree.specs.PlainTyped as typed
 use Rattle.sc_typing.specs.Rules.{moves}
-use Rattle.sc_core.specs.declared.operation.Operation.TheVariants as does
-use Rattle.sc_core.specs.Core.{Core, constant, step, choice}
-use Rattle.sc_core.specs.Places.{Found, value, local, cell, fetched, converted, last_of, without_last, is_pointer, operation_on, exposed, address_of, step_operator, taken_back, number_one}
-use Rattle.sc_core.specs.Expressions.{type_of, star_of, value_of, found, found_form, prefixed, set_to, stepped_after}
+use Rattle.sc_core.specs.Core.{Core, choice}
+use Rattle.sc_core.specs.Places.{Found, value, local, cell, converted, last_of, without_last, is_pointer, operation_on, address_of, step_operator, taken_back}
+use Rattle.sc_core.specs.Expressions.{star_of, value_of, found, found_form, prefixed, stepped_after}
 use Rattle.sc_core.specs.Kinds.{Kind, number, to, kind_of, Scope, HasBegun, of_mine, of_procs, Computes, Takes}
 use Rattle.sc_core.specs.Kinds as kinds
 use Rattle.sc_core.specs.Typed.{IsValue}
-use Rattle.core_typing.proofs.Types.{Points, points, Alike, kind-push, unpointed}
-use Rattle.core_typing.proofs.Cores.{Gives, gives-as, gives-number, gives-eight, gives-one, gives-two, kind-value, chooses, chooses-pointer, gives-one_number}
-use Rattle.core_typing.proofs.Founds.{IsCell, FoundIs, a_value, a_local, a_cell, assigned-gives, changed-gives, changed-after-gives, converted-gives, behind-is}
+use Rattle.core_typing.proofs.Types.{Points, points, Alike, kind-push}
+use Rattle.core_typing.proofs.Cores.{Gives, gives-as, gives-number, gives-eight, gives-one, kind-value, chooses, chooses-pointer, gives-one_number}
+use Rattle.core_typing.proofs.Founds.{FoundIs, a_value, a_local, a_cell, assigned-gives, changed-gives, changed-after-gives, converted-gives, behind-is}
 use Rattle.core_typing.proofs.Finds.{Finds, value-gives, star-is, value-points}
 
 -- an operator that a whole number takes, or a pointer where it moves it

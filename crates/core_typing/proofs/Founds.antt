@@ -1,17 +1,16 @@
 -- What was found of a typed expression: a value of its type's kind, a local that has begun, or a cell of its type.
-use Rattle.std.proofs.Common.{◌≡◌, refl, sym, ◌∙◌, ap, subst, ℕ, zero, suc, ◌+◌, arith, Bool, true, false, List, [], ◌∷◌, ◌++◌, length}
-use Rattle.std.specs.Prelude.{Option, Some, None, not, ◌&&◌, slice_get, ◌≤◌, if◌then◌else◌}
-use Rattle.sc_base.specs.declared.operator.Binary.{Binary}
+use Rattle.std.proofs.Common.{◌≡◌, refl, ℕ, ◌+◌, arith, Bool, true, false, List, [], ◌∷◌, length}
+use Rattle.std.specs.Prelude.{Option, Some, not, ◌&&◌, slice_get, if◌then◌else◌}
 use Rattle.sc_base.specs.declared.shape.Star.{Star}
 use Rattle.sc_base.specs.declared.shape.Shape.{Shape}
 use Rattle.sc_core.specs.declared.operation.Operation.{Operation}
 use Rattle.sc_core.specs.declared.operation.Operation.TheVariants as does
-use Rattle.sc_core.specs.Core.{Core, constant, step, choice, update, Arguments, none, argument}
-use Rattle.sc_core.specs.Places.{number_one, with_one, with_two, Found, value, local, cell, reaching, fetched, assigned, changed, changed_after, exposed, address_of, behind, is_own, converted, is_wide, without_last}
+use Rattle.sc_core.specs.Core.{Core, constant, step, choice, update, Arguments}
+use Rattle.sc_core.specs.Places.{with_one, Found, value, local, cell, reaching, fetched, assigned, changed, changed_after, exposed, behind, is_own, converted, is_wide}
 use Rattle.sc_core.specs.Kinds.{Kind, number, to, named, kind_of, Scope, HasBegun, IsPlaceOf, pointed, by_name, Computes, Takes, HasIndices, numbers}
 use Rattle.sc_core.specs.Kinds as kinds
-use Rattle.sc_core.specs.Typed.{Has, Have, TakesBack}
-use Rattle.core_typing.proofs.Cores.{Gives, GiveAll, gives, gives-as, no-arguments, one-more, gives-step, gives-one, gives-two, gives-none, gives-one_number, updates}
+use Rattle.sc_core.specs.Typed.{Has}
+use Rattle.core_typing.proofs.Cores.{Gives, GiveAll, gives-step, gives-one, gives-two, gives-none, gives-one_number, updates}
 
 -- an expression that gives the place of an access to a cell whose type has these stars
 pub record Reaches (scope : Scope) (stars : List Star) (e : Core) : Type 0 where

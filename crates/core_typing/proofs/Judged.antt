@@ -1,6 +1,6 @@
 -- What is known of judged expressions of each kind with a fixed number of operands, from what is known of the operands.
-use Rattle.std.proofs.Common.{◌≡◌, refl, sym, ◌∙◌, ap, subst, ℕ, Bool, true, false, ◌&&◌, ◌||◌, List, [], ◌∷◌, ◌++◌}
-use Rattle.std.specs.Prelude.{ℤ, pos, Option, Some, None, FitsSigned, if◌then◌else◌}
+use Rattle.std.proofs.Common.{◌≡◌, refl, sym, ◌∙◌, ap, subst, ℕ, Bool, true, false, ◌&&◌, ◌||◌, List, [], ◌∷◌}
+use Rattle.std.specs.Prelude.{ℤ, pos, Option, Some, None, FitsSigned}
 use Rattle.std.specs.Int.{w64}
 use Rattle.std.specs.Ordering.{int_eq}
 use Rattle.sc_base.specs.declared.operator.Binary.{Binary}
@@ -18,25 +18,24 @@ use Rattle.sc_typing.specs.declared.places.PlaceKind.{PlaceKind}
 use Rattle.sc_typing.specs.declared.places.PlaceKind.TheVariants as place
 use Rattle.sc_typing.specs.Types as types
 use Rattle.sc_typing.specs.Types.{int, pointer, element, last_star, same_type, has_stars, is_int}
-use Rattle.sc_typing.specs.Known.{Valued, valued, expression_of, fits, meets, common, Judgement, judged}
+use Rattle.sc_typing.specs.Known.{Valued, expression_of, fits, meets, common, Judgement}
 use Rattle.sc_typing.specs.Rules
 use Rattle.sc_typing.specs.Places
 use Rattle.sc_typing.specs.Places.{reached_by, may_be_memory}
 use Rattle.sc_typing.specs.Naming.{constant, null_constant}
-use Rattle.sc_typing.specs.Operators.{int_value, int_of, number_of, plus_of, prefix_kept, prefix_of, deref_value, deref_of, address_type, address_value, address_of, cast_type, cast_value, cast_of, step_value, step_of, set_value, assigned_value, assign_of, compound_of, set_of, chosen_value, choice_of}
-use Rattle.sc_core.specs.Core.{Core}
-use Rattle.sc_core.specs.Places.{Found, value, local, cell, last_of, without_last, is_own}
-use Rattle.sc_core.specs.Expressions.{object_in, object_named, star_of, value_of, found, found_form}
+use Rattle.sc_typing.specs.Operators.{int_of, number_of, plus_of, prefix_kept, prefix_of, deref_value, deref_of, address_type, address_value, address_of, cast_type, cast_value, cast_of, step_value, step_of, set_value, assigned_value, assign_of, compound_of, set_of, chosen_value, choice_of}
+use Rattle.sc_core.specs.Places.{Found, value, local, cell, is_own}
+use Rattle.sc_core.specs.Expressions.{object_in, found, found_form}
 use Rattle.sc_core.specs.Kinds.{Scope}
-use Rattle.core_typing.proofs.Types.{left_of, right_of, one_of, no_more, Points, points, points-last, Alike, int-stars, element-stars, last-is, same-elements, wide-there, fitting}
+use Rattle.core_typing.proofs.Types.{left_of, right_of, one_of, no_more, Points, points, Alike, int-stars, element-stars, last-is, same-elements}
 use Rattle.core_typing.proofs.Founds.{FoundIs}
 use Rattle.sc_core.specs.Core.{Does}
 use Rattle.sc_core.specs.Statements.{whole_form}
-use Rattle.core_typing.proofs.Acts.{Acts, dropped-acts, assigning-acts}
+use Rattle.core_typing.proofs.Acts.{dropped-acts, assigning-acts}
 use Rattle.core_typing.proofs.Finds.{Finds, finds-form, null-found, star-is}
 use Rattle.core_typing.proofs.Forms.{Operates, on_number, on_pointer, number-comes, my_proc-comes, procs-comes, size_int-comes, plus-comes, prefix-comes, not-comes, deref-comes, IsThere, is_there, address-comes, cast-number-comes, cast-comes, choice-comes, assign-comes, compound-comes, step-comes}
-use Rattle.core_typing.proofs.Made.{Made, made-of, MadeOfTwo, made-of-two, MadeOfThree, made-of-three, some-is}
-use Rattle.core_typing.proofs.Sound.{IsPlaced, nowhere, as_local, as_memory, FitBoth, fit-both, Sound, Knows, Whole, whole-as, acting-whole, value-whole, met-finds}
+use Rattle.core_typing.proofs.Made.{made-of, made-of-two, made-of-three, some-is}
+use Rattle.core_typing.proofs.Sound.{IsPlaced, as_memory, fit-both, Sound, Knows, Whole, whole-as, acting-whole, value-whole, met-finds}
 
 -- what an operator asks of its left operand's type
 pub operates-by : (moves : Bool) (o : Binary) (ty : Ty) → (moves ≡ true → Rules.moves o ≡ true) →
@@ -84,7 +83,7 @@ module _ (objects : List Shape) (scope : Scope) where
   W j v = Whole objects scope j v
 
   -- what an operand of this type comes to
-  int-finds : {at_place : PlaceKind} (v : Valued) → Sound objects scope at_place v → is_int v.ty ≡ true →
+  pub int-finds : {at_place : PlaceKind} (v : Valued) → Sound objects scope at_place v → is_int v.ty ≡ true →
       Finds objects scope [] v.expression
   int-finds v s h = subst (λ (ss : List Star). Finds objects scope ss v.expression) (int-stars v.ty h) s.finds
 
@@ -164,9 +163,9 @@ module _ (objects : List Shape) (scope : Scope) where
       let p = points (m.of).ty.stars (subst (λ (o : Option Valued). Rules.pointer_kept o ≡ true) m.is m.rule) in
       let s = k m.of m.is in
       let f : Finds objects scope (element (m.of).ty).stars (deref_value spot m.of).expression =
-          finds-form objects scope
-          (subst (λ (ss : List Star). FoundIs scope ss (found_form objects (typed.deref (m.of).expression) spot.line))
-          (sym (element-stars (m.of).ty)) (deref-comes objects scope spot.line p s.finds)) in
+      finds-form objects scope
+      (subst (λ (ss : List Star). FoundIs scope ss (found_form objects (typed.deref (m.of).expression) spot.line))
+      (sym (element-stars (m.of).ty)) (deref-comes objects scope spot.line p s.finds)) in
       whole-as objects scope _ v m.gives
       (record {
         taken = refl;
@@ -255,9 +254,9 @@ module _ (objects : List Shape) (scope : Scope) where
       let first_rule = left_of (Rules.place_kept (Rules.moves o) left.place left.known) (Rules.are_int right.known) m.rule in
       let second_rule = right_of (Rules.place_kept (Rules.moves o) left.place left.known) (Rules.are_int right.known) m.rule in
       let kept =
-          right_of (Places.may_be_set left.place)
-          (is_int (m.first).ty || (Rules.moves o && has_stars (m.first).ty.stars))
-          (subst (λ (t : Option Valued). Rules.place_kept (Rules.moves o) left.place t ≡ true) m.left_is first_rule) in
+      right_of (Places.may_be_set left.place)
+      (is_int (m.first).ty || (Rules.moves o && has_stars (m.first).ty.stars))
+      (subst (λ (t : Option Valued). Rules.place_kept (Rules.moves o) left.place t ≡ true) m.left_is first_rule) in
       let number = subst (λ (t : Option Valued). Rules.are_int t ≡ true) m.right_is second_rule in
       whole-as objects scope _ v m.gives
       (value-whole objects scope (typed.assign (Some o) (m.first).expression (m.second).expression) (m.first).ty false
@@ -276,8 +275,8 @@ module _ (objects : List Shape) (scope : Scope) where
   unfolding choice_of
   choice-whole test on off spot v k l n h =
       let m =
-          made-of-three (chosen_value spot) (Rules.test_kept test.known && Rules.arms_kept on.known off.known) test.known
-          on.known off.known v h in
+      made-of-three (chosen_value spot) (Rules.test_kept test.known && Rules.arms_kept on.known off.known) test.known
+      on.known off.known v h in
       let a = m.first in
       let b = m.second in
       let arms = right_of (Rules.test_kept test.known) (Rules.arms_kept on.known off.known) m.rule in

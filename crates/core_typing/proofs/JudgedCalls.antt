@@ -1,15 +1,13 @@
 -- What is known of judged calls, from what is known of the arguments.
-use Rattle.std.proofs.Common.{◌≡◌, refl, sym, ◌∙◌, ap, subst, ℕ, zero, suc, ◌+◌, ◌<◌, lt_of_lt_of_le, arith, Bool, true, false, ◌&&◌, List, [], ◌∷◌, ◌++◌, length, take, drop}
+use Rattle.std.proofs.Common.{◌≡◌, refl, sym, ◌∙◌, subst, ℕ, ◌<◌, lt_of_lt_of_le, Bool, true, false, ◌&&◌, List, [], ◌∷◌, ◌++◌, length}
 use Rattle.std.specs.Prelude.{Option, Some, None, slice_get, nat_lt, replicate, if◌then◌else◌}
 use Rattle.std.specs.Option.{option_map, option_and_then}
-use Rattle.std.specs.List.{list_all}
 use Rattle.std.proofs.lemmas.List.Quantifiers.{position-Some}
 use Rattle.std.proofs.lemmas.Option.{slice_get-get_or, slice_get_within}
 use Rattle.sc_base.specs.declared.shape.Star.{Star}
 use Rattle.sc_base.specs.declared.shape.Star.TheVariants as star
 use Rattle.sc_base.specs.declared.shape.Shape.{Shape}
 use Rattle.sc_base.specs.declared.shape.Ty.{Ty}
-use Rattle.sc_tree.specs.declared.typed.Named.TheVariants as named_as
 use Rattle.sc_tree.specs.PlainTyped.{TypedExpression, TypedForm}
 use Rattle.sc_tree.specs.PlainTyped as typed
 use Rattle.sc_tree.specs.ViewTyped.{typed_expressions_of}
@@ -20,35 +18,32 @@ use Rattle.sc_typing.specs.declared.file.Meaning.TheVariants as means
 use Rattle.sc_typing.specs.declared.library.Library.{Library}
 use Rattle.sc_typing.specs.declared.library.Library.TheVariants as lib
 use Rattle.sc_typing.specs.declared.known.Spot.{Spot}
-use Rattle.sc_typing.specs.Types as types
-use Rattle.sc_typing.specs.Types.{int, nothing, pointer, element, last_star, has_stars}
-use Rattle.sc_typing.specs.Known.{Valued, valued, fits, Judgement, has_value, is_used, met_expression}
+use Rattle.sc_typing.specs.Types.{int, nothing, pointer, element, last_star}
+use Rattle.sc_typing.specs.Known.{Valued, valued, Judgement, has_value, is_used}
 use Rattle.sc_typing.specs.Source.{Source, library_named, object_called, definition_called, declared_first, library_first, meaning_of, object_token, definition_token, directives, directives_of}
 use Rattle.sc_typing.specs.Rules
 use Rattle.sc_typing.specs.Arguments as arguments
 use Rattle.sc_typing.specs.Arguments.{format_directives, ints_wanted, fit_all, params_of, arguments_kept, element_among, type_or_int, first_known, library_wanted, library_asks, library_kept, are_wide, pointers_wanted, to_global_wanted}
-use Rattle.sc_typing.specs.Calls.{met_all, all_used, result_of, library_type, given_format, of_one, of_two, of_three, copy_form, library_form, call_value, form_if, library_value, library_call, call_form, function_value, function_call, call_of}
+use Rattle.sc_typing.specs.Calls.{met_all, all_used, result_of, library_type, given_format, of_one, of_two, of_three, copy_form, library_form, call_value, form_if, library_call, call_form, function_call, call_of}
 use Rattle.sc_typing.specs.Naming.{unless_local, called_meaning}
 use Rattle.sc_typing.specs.Scope.{innermost}
 use Rattle.sc_typing.specs.declared.scope.InScope.{InScope}
 use Rattle.sc_tree.specs.Names.{Text}
 use Rattle.sc_base.specs.declared.value.CopyMode.{CopyMode}
 use Rattle.sc_base.specs.declared.value.CopyMode.TheVariants.{Blocking, Split, OneWay}
-use Rattle.sc_core.specs.Core.{Function, Does}
+use Rattle.sc_core.specs.Core.{Does}
 use Rattle.sc_core.specs.Statements.{whole_form, copying}
 use Rattle.sc_core.specs.Kinds as kinds
-use Rattle.sc_core.specs.Places.{last_of, without_last, number_zero, value}
 use Rattle.sc_core.specs.Expressions.{object_in, found_form}
 use Rattle.sc_core.specs.Kinds.{Scope}
 use Rattle.core_typing.proofs.Types.{left_of, right_of, no_more, Points, points-last, last-is, element-stars, wide-there, kind-push}
 use Rattle.core_typing.proofs.Cores.{no-arguments, gives-zero}
 use Rattle.core_typing.proofs.Acts.{Acts, act-acts, print-acts, copy-acts}
 use Rattle.core_typing.proofs.Founds.{FoundIs, a_value}
-use Rattle.core_typing.proofs.Finds.{Finds}
 use Rattle.core_typing.proofs.Lists.{Fit, none_fit, more_fit, call-comes, to_global-comes, to_proc-comes, to_local-comes}
 use Rattle.core_typing.proofs.Made.{never_some, some-is}
-use Rattle.core_typing.proofs.Seen.{Defines, Sees}
-use Rattle.core_typing.proofs.Sound.{Sound, Knows, Whole, whole-as, acting-whole, value-whole, standing-met}
+use Rattle.core_typing.proofs.Seen.{Sees}
+use Rattle.core_typing.proofs.Sound.{Knows, Whole, whole-as, acting-whole, value-whole, standing-met}
 
 module _ (objects : List Shape) (scope : Scope) where
   pub data AllKnown : List Judgement → Type 0 where
@@ -94,15 +89,15 @@ module _ (objects : List Shape) (scope : Scope) where
   unfolding function_call
   function-whole c function d js spot v there sees known h =
       let m =
-          formed (arguments_kept c function js && all_used js)
-          (Some (call_form function (met_all (params_of (slice_get c.definitions function)) js)))
-          (call_value spot (result_of (slice_get c.definitions function))) v h in
+      formed (arguments_kept c function js && all_used js)
+      (Some (call_form function (met_all (params_of (slice_get c.definitions function)) js)))
+      (call_value spot (result_of (slice_get c.definitions function))) v h in
       let f = sees.functions function d there in
       let fit_rule = left_of (arguments_kept c function js) (all_used js) m.rule in
       let used_rule = right_of (arguments_kept c function js) (all_used js) m.rule in
       let fit =
-          fit-met d.params js (subst (λ (o : Option Definition). fit_all (params_of o) js ≡ true) there fit_rule) used_rule
-          known in
+      fit-met d.params js (subst (λ (o : Option Definition). fit_all (params_of o) js ≡ true) there fit_rule) used_rule
+      known in
       whole-as objects scope _ v m.gives
       (subst (λ (form : TypedForm). Whole objects scope (function_call c function js spot)
       (valued form (result_of (slice_get c.definitions function)) false spot)) (some-is _ m.of m.is)
@@ -163,9 +158,6 @@ module _ (objects : List Shape) (scope : Scope) where
           (points-last (v.0).ty.stars t.0 (sym (last-is (v.0).ty) ∙ t.1))
 
   -- forms that stand as whole statements alone
-  zero-found : (ty : Ty) → ty.stars ≡ [] → FoundIs scope ty.stars (value number_zero)
-  zero-found ty e = subst (λ (ss : List Star). FoundIs scope ss (value number_zero)) (sym e) (a_value (gives-zero scope))
-
   sync-formal : (line : ℕ) → Formal typed.sync nothing line
   unfolding found_form
   sync-formal line = record {
@@ -250,7 +242,7 @@ module _ (objects : List Shape) (scope : Scope) where
   printed-formal c (Some g) js form line sees known h u some e =
       let n = some-there (directives_of c g.format) some in
       let fit : Fit objects scope (met_all (ints_wanted (directives_of c g.format)) js) (ints_wanted (directives_of c g.format)) =
-          fit-met (ints_wanted (directives_of c g.format)) js h u known in
+      fit-met (ints_wanted (directives_of c g.format)) js h u known in
       formal-as _ form e
       (print-formal n.0 g.format line (lt_of_lt_of_le (directed c g.format n.0 n.1) sees.texts)
       (subst (λ (o : Option ℕ). Fit objects scope (met_all (ints_wanted (directives_of c g.format)) js) (ints_wanted o)) n.1
@@ -290,14 +282,14 @@ module _ (objects : List Shape) (scope : Scope) where
   unfolding library_call
   library-whole c l given js spot v sees known h =
       let m =
-          formed (library_kept c l given js && all_used js) (library_form given l (met_all (library_wanted c given js l) js))
-          (call_value spot (library_type js l)) v h in
+      formed (library_kept c l given js && all_used js) (library_form given l (met_all (library_wanted c given js l) js))
+      (call_value spot (library_type js l)) v h in
       let kept = left_of (library_kept c l given js) (all_used js) m.rule in
       let f =
-          library-formal c l given js m.of spot.line sees known
-          (left_of (fit_all (library_wanted c given js l) js) (library_asks c given js l) kept)
-          (right_of (fit_all (library_wanted c given js l) js) (library_asks c given js l) kept)
-          (right_of (library_kept c l given js) (all_used js) m.rule) m.is in
+      library-formal c l given js m.of spot.line sees known
+      (left_of (fit_all (library_wanted c given js l) js) (library_asks c given js l) kept)
+      (right_of (fit_all (library_wanted c given js l) js) (library_asks c given js l) kept)
+      (right_of (library_kept c l given js) (all_used js) m.rule) m.is in
       whole-as objects scope _ v m.gives
       (acting-whole objects scope m.of (library_type js l) false spot _ refl refl f.nameless f.found f.acts)
 

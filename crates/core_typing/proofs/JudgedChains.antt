@@ -1,23 +1,21 @@
 -- What is known of judged chains, and of `&&` and `||`, a link or an operand at a time.
-use Rattle.std.proofs.Common.{◌≡◌, refl, sym, ◌∙◌, ap, subst, ℕ, Bool, true, false, ◌&&◌, ◌||◌, List, [], ◌∷◌, ◌++◌}
+use Rattle.std.proofs.Common.{◌≡◌, refl, sym, ◌∙◌, subst, ℕ, Bool, true, false, ◌&&◌, ◌||◌, List, [], ◌∷◌, ◌++◌}
 use Rattle.std.specs.Prelude.{Option, Some, None, if◌then◌else◌}
-use Rattle.std.specs.Option.{option_map}
 use Rattle.sc_base.specs.declared.operator.Binary.{Binary}
 use Rattle.sc_base.specs.declared.operator.Binary.TheVariants as op
 use Rattle.sc_base.specs.declared.shape.Star.{Star}
 use Rattle.sc_base.specs.declared.shape.Shape.{Shape}
 use Rattle.sc_base.specs.declared.shape.Ty.{Ty}
-use Rattle.sc_tree.specs.Plain.{Expression, Expressions, no_expressions, expressions, link, Links, no_links, links}
+use Rattle.sc_tree.specs.Plain.{Expression, Expressions, no_expressions, expressions, link, Links, links}
 use Rattle.sc_tree.specs.PlainTyped.{TypedExpression, TypedForm, TypedLink}
 use Rattle.sc_tree.specs.PlainTyped as typed
-use Rattle.sc_tree.specs.ViewTyped.{typed_expressions_of, typed_links_of}
+use Rattle.sc_tree.specs.ViewTyped.{typed_links_of}
 use Rattle.sc_typing.specs.declared.known.Spot.{Spot}
 use Rattle.sc_typing.specs.declared.places.PlaceKind.{PlaceKind}
-use Rattle.sc_typing.specs.declared.places.PlaceKind.TheVariants as place
 use Rattle.sc_typing.specs.declared.scope.InScope.{InScope}
 use Rattle.sc_typing.specs.Source.{Source}
-use Rattle.sc_typing.specs.Types.{int, same_type, has_stars, is_int}
-use Rattle.sc_typing.specs.Known.{Valued, valued, expression_of, fits, meets, common, Judgement, judged, only, used}
+use Rattle.sc_typing.specs.Types.{int, has_stars, is_int}
+use Rattle.sc_typing.specs.Known.{Valued, expression_of, fits, common, Judgement, only}
 use Rattle.sc_typing.specs.Rules
 use Rattle.sc_typing.specs.Operators.{int_value, Gathered, gathered, gather}
 use Rattle.sc_typing.specs.Chains.{Linked, first_link, begin_chain, left_operand, level_of, link_kept, has_links, met_unless, with_first, pushed, pushed_int, equality, with_link, join_kept, join, chain_value}
@@ -26,15 +24,16 @@ use Rattle.sc_typing.proofs.TypedLists.{no_chain}
 use Rattle.sc_core.specs.Places.{last_of, without_last, star_after}
 use Rattle.sc_core.specs.Expressions.{object_in, found_form}
 use Rattle.sc_core.specs.Kinds.{Scope}
-use Rattle.core_typing.proofs.Types.{left_of, right_of, one_of, no_more, Points, points, Alike, int-stars, Fitting, equal, null, wider, fitting}
+use Rattle.core_typing.proofs.Types.{left_of, right_of, one_of, no_more, Points, points, int-stars, Fitting, equal, null, wider, fitting}
 use Rattle.core_typing.proofs.Founds.{FoundIs}
 use Rattle.sc_core.specs.Core.{Does}
 use Rattle.sc_core.specs.Statements.{whole_form}
 use Rattle.core_typing.proofs.Finds.{Finds}
 use Rattle.core_typing.proofs.Forms.{Operates, on_number, on_pointer}
-use Rattle.core_typing.proofs.Lists.{Chained, chained-first, chained-moved, chained-number, chained-equal, chained-differ, chain-comes, AllFind, none_found, all-push, both-comes, either-comes}
-use Rattle.core_typing.proofs.Made.{never_some, some-is, Only, only-is, Made, made-of}
-use Rattle.core_typing.proofs.Sound.{FitBoth, fit-both, fits-self, Sound, Knows, Whole, whole-as, value-whole, met-finds}
+use Rattle.core_typing.proofs.Lists.{Chained, chained-first, chained-moved, chained-number, chained-equal, chained-differ, chain-comes, AllFind, all-push, both-comes, either-comes}
+use Rattle.core_typing.proofs.Made.{never_some, some-is, only-is, made-of}
+use Rattle.core_typing.proofs.Judged.{int-finds}
+use Rattle.core_typing.proofs.Sound.{fit-both, fits-self, Sound, Knows, Whole, whole-as, value-whole, met-finds}
 
 -- ---- operands of one type
 
@@ -104,10 +103,6 @@ module _ (objects : List Shape) (scope : Scope) where
       (chained-first objects scope s.finds))
   linking-chained l (with_links h n c) = c
 
-  int-finds : {at_place : PlaceKind} (v : Valued) → Sound objects scope at_place v → is_int v.ty ≡ true →
-      Finds objects scope [] v.expression
-  int-finds v s h = subst (λ (ss : List Star). Finds objects scope ss v.expression) (int-stars v.ty h) s.finds
-
   -- ---- a link
 
   moves-any : (ss : List Star) (o : Binary) → Rules.moves o ≡ true → Operates ss o
@@ -120,7 +115,7 @@ module _ (objects : List Shape) (scope : Scope) where
   sum-linking l o at line v m s k f h =
       with_links (has_links-push l.rest _) refl
       (chained-moved objects scope o at line (moves-any l.ty.stars o m) s (linking-chained l k)
-      (int-finds v f (right_of (Rules.are_scalar (Some (left_operand l))) (is_int v.ty) h)))
+      (int-finds objects scope v f (right_of (Rules.are_scalar (Some (left_operand l))) (is_int v.ty) h)))
 
   other-linking : {at_place : PlaceKind} (l : Linked) (o : Binary) (at line : ℕ) (v : Valued) → Linking l →
       Sound objects scope at_place v → (is_int l.ty && is_int v.ty) ≡ true →
@@ -130,7 +125,7 @@ module _ (objects : List Shape) (scope : Scope) where
       (chained-number objects scope o at line
       (subst (λ (ss : List Star). Chained objects scope l.first.expression l.rest ss)
       (int-stars l.ty (left_of (is_int l.ty) (is_int v.ty) h)) (linking-chained l k))
-      (int-finds v f (right_of (is_int l.ty) (is_int v.ty) h)))
+      (int-finds objects scope v f (right_of (is_int l.ty) (is_int v.ty) h)))
 
   -- `==` or `!=`
   pub data IsEquality : Binary → Type 0 where
@@ -148,14 +143,18 @@ module _ (objects : List Shape) (scope : Scope) where
 
   first-met : (l : Linked) (ty : Ty) → Linking l → fits l.ty l.is_null ty ≡ true →
       (ss : List Star) × Compared ss ty.stars × Chained objects scope (with_first l ty).first.expression l.rest ss
-  first-met l ty (alone r t n s) h =
-      (ty.stars, compared-self ty.stars,
-      subst (λ (rest : List TypedLink). Chained objects scope (met_unless (has_links rest) l.first ty).expression rest ty.stars)
-      (sym r) (chained-first objects scope (met-finds objects scope l.first ty s
-      (subst (λ (m : Bool). fits l.first.ty m ty ≡ true) n (subst (λ (a : Ty). fits a l.is_null ty ≡ true) t h)))))
-  first-met l ty (with_links r n c) h =
-      (l.ty.stars, compared-fitting (fitting l.ty false ty (subst (λ (m : Bool). fits l.ty m ty ≡ true) n h)),
-      subst (λ (has : Bool). Chained objects scope (met_unless has l.first ty).expression l.rest l.ty.stars) (sym r) c)
+  first-met l ty (alone r t n s) h = (
+    ty.stars,
+    compared-self ty.stars,
+    subst (λ (rest : List TypedLink). Chained objects scope (met_unless (has_links rest) l.first ty).expression rest ty.stars)
+        (sym r) (chained-first objects scope (met-finds objects scope l.first ty s
+        (subst (λ (m : Bool). fits l.first.ty m ty ≡ true) n (subst (λ (a : Ty). fits a l.is_null ty ≡ true) t h)))),
+  )
+  first-met l ty (with_links r n c) h = (
+    l.ty.stars,
+    compared-fitting (fitting l.ty false ty (subst (λ (m : Bool). fits l.ty m ty ≡ true) n h)),
+    subst (λ (has : Bool). Chained objects scope (met_unless has l.first ty).expression l.rest l.ty.stars) (sym r) c,
+  )
 
   equality-linking : {at_place : PlaceKind} (l : Linked) (o : Binary) (at line : ℕ) (v : Valued) → IsEquality o → Linking l →
       Sound objects scope at_place v → Rules.comparable (left_operand l) v ≡ true →
@@ -181,8 +180,8 @@ module _ (objects : List Shape) (scope : Scope) where
     unfolding join
     joined l o e at line x known m same =
         let d =
-            made-of (with_link (level_of o) l o at line) (join_kept (Some l) o (judge c locals 0 e))
-            (judge c locals 0 e).known m same in
+        made-of (with_link (level_of o) l o at line) (join_kept (Some l) o (judge c locals 0 e))
+        (judge c locals 0 e).known m same in
         subst (λ (m : Linked). Linking m) d.gives
         (link-linking l o at line d.of x (known d.of d.is)
         (subst (λ (t : Option Valued). link_kept (level_of o) (Some (left_operand l)) t ≡ true) d.is d.rule))

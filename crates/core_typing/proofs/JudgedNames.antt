@@ -1,14 +1,10 @@
 -- What is known of names: locals, and objects with so many of the indices that stand behind them.
-use Rattle.std.proofs.Common.{◌≡◌, refl, sym, ◌∙◌, ap, subst, ℕ, zero, suc, ◌+◌, arith, Bool, true, false, not, ◌&&◌, ◌||◌, ◌==◌, min, List, [], ◌∷◌, ◌++◌, length}
+use Rattle.std.proofs.Common.{◌≡◌, refl, sym, subst, ℕ, ◌+◌, arith, Bool, true, false, not, ◌&&◌, ◌==◌, min, List, [], ◌∷◌, length}
 use Rattle.std.specs.Prelude.{Option, Some, None, slice_get, nat_eq, if◌then◌else◌}
-use Rattle.sc_base.specs.declared.shape.Star.{Star}
 use Rattle.sc_base.specs.declared.shape.Star.TheVariants as star
 use Rattle.sc_base.specs.declared.shape.Bound.{Bound}
 use Rattle.sc_base.specs.declared.shape.Shape.{Shape}
 use Rattle.sc_base.specs.declared.shape.Ty.{Ty}
-use Rattle.sc_tree.specs.declared.typed.Named.TheVariants as named_as
-use Rattle.sc_tree.specs.PlainTyped.{TypedExpression, typed_expression, TypedForm}
-use Rattle.sc_tree.specs.PlainTyped as typed
 use Rattle.sc_typing.specs.declared.file.Meaning.{Meaning}
 use Rattle.sc_typing.specs.declared.file.Meaning.TheVariants as means
 use Rattle.sc_typing.specs.declared.known.Spot.{Spot}
@@ -16,27 +12,26 @@ use Rattle.sc_typing.specs.declared.places.PlaceKind.{PlaceKind}
 use Rattle.sc_typing.specs.declared.places.PlaceKind.TheVariants as place
 use Rattle.sc_typing.specs.declared.scope.InScope.{InScope}
 use Rattle.sc_typing.specs.Types.{pointer}
-use Rattle.sc_typing.specs.Known.{Valued, valued, Judgement, judged}
+use Rattle.sc_typing.specs.Known.{Valued, Judgement, judged}
 use Rattle.sc_typing.specs.Scope.{innermost}
 use Rattle.sc_typing.specs.Source.{Source, meaning_of, has_bounds, object_star, dimensions, has_its_indices, object_type}
 use Rattle.sc_typing.specs.Places.{object_place}
 use Rattle.sc_typing.specs.Naming.{object_value, object_if, object_named, meaning_named, local_value, name_in, named}
-use Rattle.sc_core.specs.Core.{Core, step, Arguments, none}
-use Rattle.sc_core.specs.Places.{Found, value, cell, is_own, dimensions_of, object_with}
-use Rattle.sc_core.specs.Expressions as expressions
-use Rattle.sc_core.specs.Expressions.{found, found_form}
+use Rattle.sc_core.specs.Core.{Arguments, none}
+use Rattle.sc_core.specs.Places.{is_own, object_with}
+use Rattle.sc_core.specs.Expressions.{found}
 use Rattle.sc_core.specs.Statements.{whole}
 use Rattle.sc_core.specs.Kinds.{kind_of_type, Scope, HasBegun, numbers}
-use Rattle.core_typing.proofs.Types.{left_of, right_of, one_of, no_more}
+use Rattle.core_typing.proofs.Types.{left_of}
 use Rattle.core_typing.proofs.Cores.{GiveAll, no-arguments}
 use Rattle.core_typing.proofs.Founds.{FoundIs}
 use Rattle.core_typing.proofs.Finds.{Finds, finds-form}
 use Rattle.core_typing.proofs.Forms.{local-comes}
-use Rattle.core_typing.proofs.Behind.{same-number, other-number, object-whole, object-short, name-comes}
+use Rattle.core_typing.proofs.Behind.{same-number, object-whole, object-short}
 use Rattle.core_typing.proofs.Acts.{Acts, dropped-acts}
 use Rattle.core_typing.proofs.Made.{never_some, some-is}
 use Rattle.core_typing.proofs.Seen.{Sees, AllBegun, innermost-begun}
-use Rattle.core_typing.proofs.Sound.{IsPlaced, nowhere, as_local, as_memory, Sound, Knows, Whole, whole-as}
+use Rattle.core_typing.proofs.Sound.{IsPlaced, nowhere, as_local, as_memory, Sound, Whole, whole-as}
 
 number-same : (m n : ℕ) → nat_eq m n ≡ true → m ≡ n
 number-same m n h = grind arith
@@ -114,7 +109,7 @@ module _ (objects : List Shape) (scope : Scope) where
   unfolding found
   local-whole l spot v b h =
       let f : Finds objects scope l.ty.stars (local_value l spot).expression =
-          finds-form objects scope (local-comes objects scope l.number spot.line b) in
+      finds-form objects scope (local-comes objects scope l.number spot.line b) in
       whole-as objects scope _ v (some-is _ v h)
       (record {
         taken = refl;
@@ -173,7 +168,7 @@ name-sound : (c : Source) (scope : Scope) (o taken : ℕ) (s : Shape) (spot : Sp
 unfolding found
 name-sound c scope o taken s spot sees there stands none_taken =
     let gs : GiveAll scope none (numbers taken) =
-        subst (λ (n : ℕ). GiveAll scope none (numbers n)) none_taken (no-arguments scope) in
+    subst (λ (n : ℕ). GiveAll scope none (numbers n)) none_taken (no-arguments scope) in
     record {
       finds =
           finds-form c.objects scope

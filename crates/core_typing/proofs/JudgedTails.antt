@@ -1,36 +1,32 @@
 -- What is known of judged postfix expressions, one part behind the first at a time.
-use Rattle.std.proofs.Common.{◌≡◌, refl, sym, ◌∙◌, ap, subst, ℕ, zero, suc, ◌+◌, ◌-◌, ◌<◌, ◌≤◌, arith, Bool, true, false, ◌&&◌, ◌||◌, min, List, [], ◌∷◌, ◌++◌, length}
-use Rattle.std.specs.Prelude.{Option, Some, None, slice_get, nat_lt, nat_eq, if◌then◌else◌}
+use Rattle.std.proofs.Common.{◌≡◌, refl, sym, ◌∙◌, ap, subst, ℕ, zero, suc, ◌+◌, ◌<◌, arith, Bool, true, false, ◌&&◌, ◌||◌, min, List, [], ◌∷◌, ◌++◌}
+use Rattle.std.specs.Prelude.{Option, Some, None, slice_get, nat_lt, if◌then◌else◌}
 use Rattle.std.specs.Option.{option_map}
 use Rattle.sc_base.specs.declared.operator.Binary.TheVariants as op
 use Rattle.sc_base.specs.declared.shape.Star.{Star}
 use Rattle.sc_base.specs.declared.shape.Shape.{Shape}
 use Rattle.sc_base.specs.declared.shape.Ty.{Ty}
-use Rattle.sc_tree.specs.declared.typed.Named.TheVariants as named_as
 use Rattle.sc_tree.specs.Plain.{Expression, Tail, index, up, down, Tails, no_tails, tails}
 use Rattle.sc_tree.specs.PlainTyped.{TypedExpression, typed_expression, TypedForm, TypedTail}
 use Rattle.sc_tree.specs.PlainTyped as typed
-use Rattle.sc_tree.specs.ViewTyped.{typed_tails_of}
 use Rattle.sc_typing.specs.declared.known.Spot.{Spot}
 use Rattle.sc_typing.specs.declared.places.PlaceKind.{PlaceKind}
 use Rattle.sc_typing.specs.declared.places.PlaceKind.TheVariants as place
 use Rattle.sc_typing.specs.declared.scope.InScope.{InScope}
-use Rattle.sc_typing.specs.Types.{element, last_star, has_stars, is_int}
-use Rattle.sc_typing.specs.Known.{Valued, valued, expression_of, Judgement, judged, only}
+use Rattle.sc_typing.specs.Types.{last_star, has_stars, is_int}
+use Rattle.sc_typing.specs.Known.{Valued, Judgement, only}
 use Rattle.sc_typing.specs.Source.{Source, dimensions, object_type}
 use Rattle.sc_typing.specs.Rules
 use Rattle.sc_typing.specs.Places as places
 use Rattle.sc_typing.specs.Places.{object_place, reached_by}
-use Rattle.sc_typing.specs.Naming.{object_value, leading}
+use Rattle.sc_typing.specs.Naming.{leading}
 use Rattle.sc_typing.specs.Tails.{Tailed, Tailing, first_tail, begin_tails, value_so_far, with_own_index, with_index, tail_with, own_index, pointed, pointer_index, index_tail, with_step, kept_tail, step_of_tail, stepped, step_tail, postfix_value}
 use Rattle.sc_typing.specs.Typing.{tailed, judge, judge_tails, judge_tail}
 use Rattle.sc_typing.proofs.TypedLists.{no_postfix}
-use Rattle.sc_core.specs.Core.{Core}
-use Rattle.sc_core.specs.Places.{Found, last_of, without_last, dimensions_of, object_with, is_own}
-use Rattle.sc_core.specs.Expressions as expressions
-use Rattle.sc_core.specs.Expressions.{type_of, found, found_form, tail_found, stars_behind}
+use Rattle.sc_core.specs.Places.{Found, dimensions_of, object_with}
+use Rattle.sc_core.specs.Expressions.{found, tail_found}
 use Rattle.sc_core.specs.Kinds.{Scope}
-use Rattle.core_typing.proofs.Types.{left_of, right_of, one_of, no_more, Points, points, int-stars, element-stars, last-is}
+use Rattle.core_typing.proofs.Types.{left_of, right_of, no_more, Points, points, int-stars, element-stars, last-is}
 use Rattle.core_typing.proofs.Founds.{FoundIs}
 use Rattle.core_typing.proofs.Finds.{Finds, finds-form}
 use Rattle.core_typing.proofs.Forms.{Operates}
@@ -40,7 +36,7 @@ use Rattle.core_typing.proofs.Seen.{Sees}
 use Rattle.core_typing.proofs.Acts.{dropped-acts}
 use Rattle.core_typing.proofs.Sound.{IsPlaced, nowhere, as_memory, Sound, Knows, Whole, whole-as}
 use Rattle.core_typing.proofs.Judged.{operates-by}
-use Rattle.core_typing.proofs.JudgedNames.{Stands, with_all, with_most, standing-found, standing-placed, Named, First, a_whole, a_name}
+use Rattle.core_typing.proofs.JudgedNames.{Stands, with_all, with_most, standing-found, standing-placed, First, a_whole, a_name}
 
 -- ---- counts of indices
 
@@ -92,7 +88,7 @@ module _ (c : Source) (scope : Scope) (sees : Sees c scope) where
       record {
         what = object_with c.objects w.o w.count own.plain own.indices own.at;
         runs =
-            own-all c.objects scope w.s own
+            own-all c.objects scope own
             (subst (λ (ty : Ty). FoundIs scope ty.stars (object_with c.objects w.o w.count own.plain own.indices own.at))
             (sym ty)
             (standing-found c.objects scope w.o own.plain own.at w.count w.s w.there (sees.objects w.o w.s w.there) stands
@@ -117,15 +113,15 @@ module _ (c : Source) (scope : Scope) (sees : Sees c scope) where
   pointer-step {remaining = remaining} t td td' j at line same r known h =
       let kept = Rules.index_kept j.known && pointed t in
       let m =
-          made-of (with_index at line td) kept j.known td'
-          (subst (λ (o : Option Tailed). tail_with (with_index at line) o (only kept j.known) ≡ Some td') same h) in
+      made-of (with_index at line td) kept j.known td'
+      (subst (λ (o : Option Tailed). tail_with (with_index at line) o (only kept j.known) ≡ Some td') same h) in
       let number =
-          int-stars (m.of).ty
-          (subst (λ (o : Option Valued). Rules.index_kept o ≡ true) m.is (left_of (Rules.index_kept j.known) (pointed t) m.rule)) in
+      int-stars (m.of).ty
+      (subst (λ (o : Option Valued). Rules.index_kept o ≡ true) m.is (left_of (Rules.index_kept j.known) (pointed t) m.rule)) in
       let p =
-          points td.ty.stars
-          (subst (λ (o : Option Tailed). Rules.pointer_kept (option_map value_so_far o) ≡ true) same
-          (right_of (Rules.index_kept j.known) (pointed t) m.rule)) in
+      points td.ty.stars
+      (subst (λ (o : Option Tailed). Rules.pointer_kept (option_map value_so_far o) ≡ true) same
+      (right_of (Rules.index_kept j.known) (pointed t) m.rule)) in
       let f = subst (λ (ss : List Star). Finds c.objects scope ss (m.of).expression) number (known m.of m.is).finds in
       let tail = typed.index (m.of).expression at line in
       let runs = runs-push c.objects scope tail r.runs (index-found c.objects scope at line p r.runs.is f) in
@@ -143,15 +139,15 @@ module _ (c : Source) (scope : Scope) (sees : Sees c scope) where
   unfolding own_index
   own-step {more = more} t td td' j at line l same w skips left_is known h =
       let m =
-          made-of (with_own_index at line td) (Rules.index_kept j.known) j.known td'
-          (subst (λ (o : Option Tailed). tail_with (with_own_index at line) o (only (Rules.index_kept j.known) j.known)
-          ≡ Some td') same h) in
+      made-of (with_own_index at line td) (Rules.index_kept j.known) j.known td'
+      (subst (λ (o : Option Tailed). tail_with (with_own_index at line) o (only (Rules.index_kept j.known) j.known)
+      ≡ Some td') same h) in
       let number =
-          int-stars (m.of).ty (subst (λ (o : Option Valued). Rules.index_kept o ≡ true) m.is m.rule) in
+      int-stars (m.of).ty (subst (λ (o : Option Valued). Rules.index_kept o ≡ true) m.is m.rule) in
       let f = subst (λ (ss : List Star). Finds c.objects scope ss (m.of).expression) number (known m.of m.is).finds in
       let own =
-          own-push c.objects scope at line
-          (subst (λ (n : ℕ). Own c.objects scope td.first td.rest td.ty.stars w.o n w.count) left_is w.own) f in
+      own-push c.objects scope at line
+      (subst (λ (n : ℕ). Own c.objects scope td.first td.rest td.ty.stars w.o n w.count) left_is w.own) f in
       subst (λ (td' : Tailed). TailState more (own_index t j at line) td') m.gives
       (owning
       (record {

@@ -26,3 +26,4 @@ pub mod Sources
 pub mod SmallTokens
 pub mod ProperExpressions
 pub mod ProperTrees
+pub mod Laid

@@ -1,29 +1,25 @@
 -- What chains, `&&` and `||`, and calls come to, whose operands are lists.
-use Rattle.std.proofs.Common.{◌≡◌, refl, sym, ◌∙◌, ap, subst, ℕ, zero, suc, ◌+◌, arith, Bool, true, false, List, [], ◌∷◌, ◌++◌, length}
-use Rattle.std.specs.Prelude.{Option, Some, None, map, slice_get, replicate}
+use Rattle.std.proofs.Common.{◌≡◌, refl, sym, ◌∙◌, ap, ℕ, suc, ◌+◌, arith, List, [], ◌∷◌, ◌++◌, length}
+use Rattle.std.specs.Prelude.{Option, Some, None, map, slice_get}
 use Rattle.sc_base.specs.declared.operator.Binary.{Binary}
 use Rattle.sc_base.specs.declared.operator.Binary.TheVariants as op
 use Rattle.sc_base.specs.declared.shape.Star.{Star}
-use Rattle.sc_base.specs.declared.shape.Star.TheVariants as star
 use Rattle.sc_base.specs.declared.shape.Shape.{Shape}
 use Rattle.sc_base.specs.declared.shape.Ty.{Ty}
 use Rattle.sc_tree.specs.declared.typed.Named.TheVariants as named_as
 use Rattle.sc_tree.specs.PlainTyped.{TypedExpression, TypedLink}
 use Rattle.sc_tree.specs.PlainTyped as typed
 use Rattle.sc_tree.specs.ViewTyped.{typed_expressions_of, typed_links_of}
-use Rattle.sc_typing.specs.Types.{int}
-use Rattle.sc_core.specs.declared.operation.Operation.{Operation}
-use Rattle.sc_core.specs.declared.operation.Operation.TheVariants as does
-use Rattle.sc_core.specs.Core.{Core, Arguments, none, Function}
-use Rattle.sc_core.specs.Places.{Found, value, last_of, without_last, operation_on, star_after, with_two}
-use Rattle.sc_core.specs.Expressions.{star_of, count_of, value_of, values_of, found, found_form, joined, every, any}
+use Rattle.sc_core.specs.Core.{Core, Function}
+use Rattle.sc_core.specs.Places.{last_of, without_last, operation_on, star_after, with_two}
+use Rattle.sc_core.specs.Expressions.{star_of, count_of, value_of, values_of, found_form, joined, every, any}
 use Rattle.sc_core.specs.Kinds.{Kind, number, to, kind_of, kind_of_type, Scope, Takes, numbers}
 use Rattle.sc_core.specs.Kinds as kinds
 use Rattle.core_typing.proofs.Types.{Points, kind-push}
 use Rattle.core_typing.proofs.Cores.{Gives, GiveAll, gives-as, no-arguments, one-more, gives-step, gives-one, gives-two, number-value, gives-zero, gives-one_number}
 use Rattle.core_typing.proofs.Founds.{FoundIs, a_value}
 use Rattle.core_typing.proofs.Finds.{Finds, value-gives, star-is, value-points}
-use Rattle.core_typing.proofs.Forms.{Operates, on_number, on_pointer, computes-on, tested-gives}
+use Rattle.core_typing.proofs.Forms.{Operates, on_number, computes-on, tested-gives}
 
 -- the last star of the type of a chain behind these links
 abbrev pub star_behind : Option Star → List TypedLink → Option Star

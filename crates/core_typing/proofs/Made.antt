@@ -1,10 +1,9 @@
 -- What an expression with a type was made of: its operands had types, and the rule on them was kept.
-use Rattle.std.proofs.Common.{◌≡◌, refl, sym, ◌∙◌, ap, subst, ℕ, Bool, true, false, ◌&&◌, ◌||◌, List, [], ◌∷◌}
+use Rattle.std.proofs.Common.{◌≡◌, refl, Bool, true, false}
 use Rattle.std.specs.Prelude.{Option, Some, None, if◌then◌else◌}
 use Rattle.std.specs.Option.{option_map}
 use Rattle.sc_typing.specs.Known.{Valued, only}
 use Rattle.sc_typing.specs.Operators.{both_of, all_of}
-use Rattle.core_typing.proofs.Types.{no_more}
 
 pub never_some : {A P : Type 0} {x : A} → None ≡ Some x → P
 never_some {x = x} h = absurd (let z : None ≡ Some x = h in cc)

@@ -1,6 +1,6 @@
 -- What the grammar spells is proper: numbers have 64 bits, and what an `if` or a loop guards is a statement.
-use Rattle.std.proofs.Common.{◌≡◌, refl, sym, ◌∙◌, ap, subst, ℕ, suc, Bool, true, false, List, [], ◌∷◌, ◌++◌}
-use Rattle.std.specs.Prelude.{Option, Some, None}
+use Rattle.std.proofs.Common.{sym, subst, ℕ, List, [], ◌∷◌}
+use Rattle.std.specs.Prelude.{Option}
 use Rattle.std.specs.List.{All}
 use Rattle.std.proofs.lemmas.List.Elements.{All-nil, All-cons}
 use Rattle.sc_base.specs.declared.shape.BoundStep.{BoundStep}
@@ -11,15 +11,15 @@ use Rattle.sc_tree.specs.declared.token.Token.{Token}
 use Rattle.sc_tree.specs.declared.lexed.Lexed.{Lexed}
 use Rattle.sc_tree.specs.declared.tree.Param.{Param}
 use Rattle.sc_tree.specs.Plain.{Expression}
-use Rattle.sc_tree.specs.PlainStmt.{Declared, Statement, block, empty, declare, simple, split, choose, choose_else, while_, do_while, for_, for_mine, return, break, continue, Statements, Arm, arm, Arms}
+use Rattle.sc_tree.specs.PlainStmt.{Declared, Statement, declare, Statements, Arm, arm}
 use Rattle.sc_tree.specs.PlainTree.{PlainFunction, PlainTree}
 use Rattle.sc_tree.specs.ViewStmt.{statements_of, arms_of}
 use Rattle.sc_lexer.specs.Text.{IsLexed}
-use Rattle.sc_grammar.specs.Rest.{Spelt, Rest, rest, Takes, tokens_of}
+use Rattle.sc_grammar.specs.Rest.{Rest}
 use Rattle.sc_grammar.specs.Statements.{IsInitial, no_initial, some_initial, IsLocal, local_name, IsMoreLocals, no_more_locals, one_more_local, IsOptional, left_out, given, IsStatement, block_statement, empty_statement, if_statement, if_else_statement, while_statement, do_statement, for_statement, for_mine_statement, return_statement, break_statement, continue_statement, simple_statement, split_statement, one_way_statement, IsArm, if_arm, IsElseIfs, no_else_if, one_more_else_if, IsBlock, braces, IsParts, no_more_parts, locals_part, statement_part}
-use Rattle.sc_grammar.specs.Items.{IsBound, sum, IsSummands, no_more_summands, one_more_summand, IsProduct, product, IsFactors, no_more_factors, one_more_factor, IsUnit, number_unit, procs_unit, parenthesized_unit, IsBounds, no_more_bounds, one_more_bound, IsDeclarator, ordinary, spread, IsMoreDeclarators, no_more_declarators, one_more_declarator, IsResult, no_result, int_result, void_result, IsParam, nameless, with_name, IsMoreParams, no_more_params, one_more_param, IsParams, no_params, void_params, some_params, IsBody, prototype, definition, Item, objects, function, IsItem, objects_item, function_item, IsMoreItems, no_more_items, one_more_item, IsItems, all_items}
-use Rattle.sc_grammar.specs.Sentence.{functions_in, tree_of, Spells, Sentence}
-use Rattle.core_typing.specs.Proper.{HasNumbers, IfGiven, IsNoDeclaration, IsProper, AreProper, ArmsAreProper, IsProperBody, IsProperTree}
+use Rattle.sc_grammar.specs.Items.{IsBound, sum, IsSummands, no_more_summands, one_more_summand, IsProduct, product, IsFactors, no_more_factors, one_more_factor, IsUnit, number_unit, procs_unit, parenthesized_unit, IsBounds, no_more_bounds, one_more_bound, IsDeclarator, ordinary, spread, IsMoreDeclarators, no_more_declarators, one_more_declarator, IsResult, no_result, int_result, void_result, IsParam, nameless, with_name, IsMoreParams, no_more_params, one_more_param, IsParams, no_params, void_params, some_params, IsBody, prototype, definition, Item, IsItem, objects_item, function_item, IsMoreItems, no_more_items, one_more_item, IsItems, all_items}
+use Rattle.sc_grammar.specs.Sentence.{functions_in, Sentence}
+use Rattle.core_typing.specs.Proper.{NumbersFit, IfGiven, IsNoDeclaration, IsProper, AreProper, ArmsAreProper, IsProperBody, IsProperTree}
 use Rattle.core_typing.proofs.SmallTokens.{AllSmall, small-lexed}
 use Rattle.core_typing.proofs.ProperExpressions.{Small, left-small, stars-small, assign-small}
 
@@ -66,7 +66,7 @@ optional-small (given e) h = assign-small e h
 
 -- an arm of an `if`
 abbrev ArmProper : Arm → Type 0
-ArmProper (arm test body) = HasNumbers test × IsNoDeclaration body × IsProper body
+ArmProper (arm test body) = NumbersFit test × IsNoDeclaration body × IsProper body
 
 more-arms : (x : Arm) (xs : List Arm) → ArmProper x → ArmsAreProper (arms_of xs) → ArmsAreProper (arms_of (x ∷ xs))
 more-arms (arm test body) xs h g = (h.0, h.1, h.2, g)

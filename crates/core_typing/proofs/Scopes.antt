@@ -1,9 +1,8 @@
 -- The core's scope as statements follow one another: what has begun stays so, and locals keep their kinds.
-use Rattle.std.proofs.Common.{◌≡◌, refl, sym, ◌∙◌, ap, subst, ℕ, zero, suc, ◌+◌, ◌<◌, arith, Bool, true, false, List, [], ◌∷◌, ◌++◌, length, ⊎_elim}
-use Rattle.std.specs.Prelude.{Option, Some, None, map, slice_get}
+use Rattle.std.proofs.Common.{◌≡◌, refl, sym, ◌∙◌, ap, subst, ℕ, zero, suc, ◌+◌, arith, Bool, List, [], ◌∷◌, ◌++◌, length, ⊎_elim}
+use Rattle.std.specs.Prelude.{Option, Some, None, slice_get}
 use Rattle.std.specs.List.{Contains}
 use Rattle.std.proofs.lemmas.List.Elements.{Contains-append_left, Contains-append_right, Contains-append_cases}
-use Rattle.std.proofs.lemmas.Option.{slice_get_within}
 use Rattle.sc_base.specs.declared.shape.Star.{Star}
 use Rattle.sc_base.specs.declared.shape.Shape.{Shape}
 use Rattle.sc_base.specs.declared.shape.Ty.{Ty}
@@ -11,12 +10,12 @@ use Rattle.sc_tree.specs.PlainTyped.{TypedExpression}
 use Rattle.sc_typing.specs.declared.file.Definition.{Definition}
 use Rattle.sc_typing.specs.declared.scope.InScope.{InScope}
 use Rattle.sc_typing.specs.Source.{Source}
-use Rattle.sc_core.specs.Core.{Core, constant, step, choice, update, Arguments, none, argument, Does, nothing, break, continue, then_, act, choose, loop, return}
+use Rattle.sc_core.specs.Core.{Does, nothing, break, continue, then_, act, choose, loop, return}
 use Rattle.sc_core.specs.Places.{is_pointer, without_last}
 use Rattle.sc_core.specs.Expressions.{star_of, value_of}
 use Rattle.sc_core.specs.Statements.{mine_first}
-use Rattle.sc_core.specs.Kinds.{Kind, number, to, kind_of, kind_of_type, Scope, IsLocal, HasBegun}
-use Rattle.sc_core.specs.Typed.{Has, begins, after, IsMineLoop, IsTypedDoes}
+use Rattle.sc_core.specs.Kinds.{Kind, kind_of_type, Scope, IsLocal}
+use Rattle.sc_core.specs.Typed.{begins, after, IsTypedDoes}
 use Rattle.core_typing.proofs.Types.{points}
 use Rattle.core_typing.proofs.Made.{never_some}
 use Rattle.core_typing.proofs.Finds.{Finds, value-gives, value-points, star-is}

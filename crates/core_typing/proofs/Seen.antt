@@ -1,9 +1,8 @@
 -- What a part of a function sees: objects, functions and texts as the core has them, and locals that have begun.
-use Rattle.std.proofs.Common.{◌≡◌, refl, sym, ◌∙◌, ap, subst, ℕ, zero, suc, ◌≤◌, Bool, true, false, cond, List, [], ◌∷◌, ◌++◌, length, take, reverse}
-use Rattle.std.specs.Prelude.{Option, Some, None, slice_get, find, nat_eq}
+use Rattle.std.proofs.Common.{◌≡◌, subst, ℕ, zero, suc, ◌≤◌, Bool, true, false, cond, List, [], ◌∷◌, ◌++◌, length, take, reverse}
+use Rattle.std.specs.Prelude.{Some, slice_get, find, nat_eq}
 use mathlib.Core.List.{reverse-cons}
 use Rattle.sc_base.specs.declared.shape.Shape.{Shape}
-use Rattle.sc_base.specs.declared.shape.Ty.{Ty}
 use Rattle.sc_typing.specs.declared.file.Definition.{Definition}
 use Rattle.sc_typing.specs.declared.scope.InScope.{InScope}
 use Rattle.sc_typing.specs.Source.{Source}

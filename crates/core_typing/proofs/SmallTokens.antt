@@ -1,5 +1,5 @@
 -- The numbers among the tokens of a text have 64 bits.
-use Rattle.std.proofs.Common.{◌≡◌, refl, sym, ◌∙◌, ap, subst, ℕ, zero, suc, ◌+◌, ◌^◌, ◌<◌, ◌==◌, arith, Bool, true, false, not, ◌&&◌, ◌||◌, List, [], ◌∷◌, ◌++◌, length, take, drop}
+use Rattle.std.proofs.Common.{◌≡◌, refl, sym, subst, ℕ, zero, suc, ◌+◌, ◌^◌, ◌<◌, ◌==◌, arith, Bool, true, false, not, ◌&&◌, ◌||◌, List, [], ◌∷◌, ◌++◌, length, take, drop}
 use Rattle.std.specs.Prelude.{ℤ, pos, Option, Some, None, Result, Ok, Err, FitsSigned, nat_lt, nat_eq, codes, if◌then◌else◌}
 use Rattle.std.specs.Int.{w64}
 use Rattle.std.proofs.lemmas.Int.{fits_signed_from_abs}
@@ -16,7 +16,6 @@ use Rattle.sc_tree.specs.declared.lexed.Lexed.{Lexed}
 use Rattle.sc_lexer.specs.declared.number.Numeral.{Numeral}
 use Rattle.sc_lexer.specs.declared.refusal.Refused.{Refused}
 use Rattle.sc_lexer.specs.declared.refusal.Refused.TheVariants.{BadToken, WideNumber, BadByte, BadDirective}
-use Rattle.sc_lexer.specs.declared.refusal.LexError.{LexError}
 use Rattle.sc_lexer.specs.declared.refusal.LexError.TheVariants as errors
 use Rattle.sc_lexer.specs.declared.element.Element.{Element}
 use Rattle.sc_lexer.specs.declared.element.Found.{Found}
@@ -24,12 +23,11 @@ use Rattle.sc_lexer.specs.declared.element.Found.TheVariants as found
 use Rattle.sc_lexer.specs.Class.{is_blank, is_name_start, is_name_byte, is_not_newline, begins_with}
 use Rattle.sc_lexer.specs.Spelling.{word_of, mark_of}
 use Rattle.sc_lexer.specs.Number.{numeral_size, numeral_value, number_at}
-use Rattle.sc_lexer.specs.Format.{format_end, format_text}
+use Rattle.sc_lexer.specs.Format.{format_end}
 use Rattle.sc_lexer.specs.Gap.{gap_at, only_gaps}
 use Rattle.sc_lexer.specs.Defined.{Definitions, defined_value}
 use Rattle.sc_lexer.specs.Element.{named, name_at, numbered, numeral_at, quoted, format_at, marked, mark_at, ends_line, defined_as, can_define, definition_at, directive_at, solid_at, or_solid, element_at}
-use Rattle.sc_lexer.specs.Text.{State, start, with_token, with_named, with_format, taken, after, is_token, is_full, counted, element_of, Reaches, lexed_of, IsLexed}
-use Rattle.core_typing.proofs.Made.{never_some, some-is}
+use Rattle.sc_lexer.specs.Text.{State, start, with_named, taken, after, is_token, is_full, counted, element_of, Reaches, IsLexed}
 
 -- ---- elements
 
@@ -250,9 +248,9 @@ small-after : (text : List ℕ) (s : State) (e : Element) → SmallState s → e
     SmallState (after text s e)
 small-after text s e h is =
     let t =
-        small-taken s (take e.size (drop s.at text)) e.found h
-        (small-counted s (element_at s.fresh s.defined (drop s.at text)) e
-        (small-element s.fresh s.defined (drop s.at text)) is) in
+    small-taken s (take e.size (drop s.at text)) e.found h
+    (small-counted s (element_at s.fresh s.defined (drop s.at text)) e
+    (small-element s.fresh s.defined (drop s.at text)) is) in
     record { tokens = t.tokens; names = t.names }
 
 small-reaches : (text : List ℕ) (s : State) (es : List Element) (t : State) → SmallState s → Reaches text s es t →

@@ -1,7 +1,6 @@
 -- What is known of an expression that has a type: it comes to what its type says, and is the place that typing tells.
-use Rattle.std.proofs.Common.{◌≡◌, refl, sym, ◌∙◌, ap, subst, ℕ, Bool, true, false, ◌&&◌, ◌||◌, List, [], ◌∷◌, ◌++◌}
-use Rattle.std.specs.Prelude.{Option, Some, None, slice_get, if◌then◌else◌}
-use Rattle.std.specs.Option.{option_map}
+use Rattle.std.proofs.Common.{◌≡◌, refl, sym, subst, ℕ, Bool, true, false, ◌||◌, List, [], ◌∷◌}
+use Rattle.std.specs.Prelude.{Option, Some, None, if◌then◌else◌}
 use Rattle.std.specs.Cmp.Lexicographic.{pointwise}
 use Rattle.sc_base.specs.declared.shape.Star.{Star}
 use Rattle.sc_base.specs.declared.shape.Star.TheVariants as star
@@ -15,10 +14,10 @@ use Rattle.sc_typing.specs.declared.places.PlaceKind.TheVariants as place
 use Rattle.sc_typing.specs.Types.{same_bool, same_star, same_type, has_stars, widens}
 use Rattle.sc_typing.specs.Known.{Valued, valued, expression_of, fits, meets, common, Judgement, met_expression, standing_in, met_known, expression_for}
 use Rattle.sc_core.specs.Core.{Core}
-use Rattle.sc_core.specs.Places.{Found, value, local, cell, is_own}
+use Rattle.sc_core.specs.Places.{Found, local, cell, is_own}
 use Rattle.sc_core.specs.Expressions.{object_in, object_named, found, found_form}
 use Rattle.sc_core.specs.Kinds.{Scope}
-use Rattle.core_typing.proofs.Types.{left_of, right_of, one_of, no_more, Points, points, Alike, same-stars, widens-alike}
+use Rattle.core_typing.proofs.Types.{one_of, no_more, Points, points, Alike, same-stars, widens-alike}
 use Rattle.core_typing.proofs.Founds.{FoundIs}
 use Rattle.sc_core.specs.Core.{Does}
 use Rattle.sc_core.specs.Statements.{dropped, whole_form, whole}

@@ -1,25 +1,20 @@
 -- The core of a source in which nothing is broken is typed: its functions, and the one that is begun with.
 use Rattle.std.proofs.Common.{◌≡◌, refl, sym, ◌∙◌, ap, subst, ℕ, zero, suc, ◌+◌, ◌-◌, ◌<◌, ◌≤◌, arith, Bool, true, false, cond, List, [], ◌∷◌, ◌++◌, length, drop, ◌⊎◌, inl, inr, length-append}
-use Rattle.std.specs.Prelude.{Option, Some, None, map, slice_get, find, codes, if◌then◌else◌}
+use Rattle.std.specs.Prelude.{Option, Some, None, map, slice_get, find, codes}
 use Rattle.std.specs.Option.{option_map, option_map_or}
 use Rattle.std.specs.Str.{bytes_eq}
 use Rattle.std.specs.List.{Contains, All}
 use Rattle.std.proofs.lemmas.List.Elements.{Contains-append_right, All-head, All-tail, All-nil, All-cons}
 use Rattle.std.proofs.lemmas.Option.{slice_get-map}
 use Rattle.std.proofs.Math.Seq.{drop-append_seam}
-use Rattle.sc_base.specs.declared.shape.Shape.{Shape}
 use Rattle.sc_base.specs.declared.shape.Ty.{Ty}
 use Rattle.sc_tree.specs.Names.{Text}
 use Rattle.sc_tree.specs.declared.tree.Param.{Param}
 use Rattle.sc_tree.specs.declared.typed_stmt.TypedParam.{TypedParam}
-use Rattle.sc_tree.specs.PlainStmt.{Statement, Statements}
+use Rattle.sc_tree.specs.PlainStmt.{Statements}
 use Rattle.sc_tree.specs.PlainTree.{PlainFunction, PlainTree}
-use Rattle.sc_tree.specs.PlainTypedStmt.{TypedStatements}
-use Rattle.sc_tree.specs.PlainTypedTree.{PlainTypedFunction, PlainTypedTree}
 use Rattle.sc_tree.specs.ViewTypedStmt.{typed_statements_of}
 use Rattle.sc_typing.specs.declared.file.Definition.{Definition}
-use Rattle.sc_typing.specs.declared.notes.Breach.{Breach}
-use Rattle.sc_typing.specs.declared.scope.InScope.{InScope}
 use Rattle.sc_typing.specs.Answer.{IsWellTyped}
 use Rattle.sc_typing.specs.Broken.{FunctionBreaks, FileBreaks}
 use Rattle.sc_typing.specs.NameRules.{is_main, main_definition, main_kept, no_types}
@@ -34,7 +29,7 @@ use Rattle.sc_core.specs.Kinds.{kind_of_type, Scope, HasBegun}
 use Rattle.sc_core.specs.Lowering.{types_of, all_of, function_with, functions_of, main_in, core_of}
 use Rattle.sc_core.specs.Typed.{below, scope_of, IsTypedFunction, IsTyped, IsTypedDoes}
 use Rattle.core_typing.specs.Proper.{IsProperBody, IsProperTree, AreProper}
-use Rattle.core_typing.proofs.Types.{left_of, right_of, no_more}
+use Rattle.core_typing.proofs.Types.{left_of, no_more}
 use Rattle.core_typing.proofs.Made.{never_some, some-is}
 use Rattle.core_typing.proofs.Seen.{Defines, Sees, AllBegun, none_begun, more_begun, begun-append}
 use Rattle.core_typing.proofs.Scopes.{Numbered, numbered-first, numbered-rest, numbered-front, numbered-back}
@@ -219,13 +214,13 @@ module _ (c : Source) where
       let others = types_of (typed_statements_of (typed_all (within c f) (body_scope f) all)) in
       let n = function-numbered p g in
       let front : Numbered scope 0 (program.types_of f.params) =
-          subst (λ (ts : List Ty). Numbered scope 0 ts) (param-types f.params) (numbered-front types others n) in
+      subst (λ (ts : List Ty). Numbered scope 0 ts) (param-types f.params) (numbered-front types others n) in
       let count : length types ≡ length (program.types_of f.params) = ap length (param-types f.params) in
       let begun =
-          parameters-begun scope nothing_in_scope f.params none_begun front
-          (λ x h. below-there (length types) x (omega (arith, h, count))) in
+      parameters-begun scope nothing_in_scope f.params none_begun front
+      (λ x h. below-there (length types) x (omega (arith, h, count))) in
       let from : 0 + length types ≡ (body_scope f).count =
-          (let e = parameters-count nothing_in_scope f.params in omega (arith, e, count)) in
+      (let e = parameters-count nothing_in_scope f.params in omega (arith, e, count)) in
       let back = subst (λ (k : ℕ). Numbered scope k others) from (numbered-back 0 types others n) in
       let h = all-typed (within c f) scope (function-sees p g is) false 0 (body_scope f) all proper begun back u in
       subst
@@ -335,10 +330,10 @@ module _ (tree : PlainTree) (names texts : List Text) where
   pub cores-typed : IsProperTree tree → IsWellTyped tree names texts → IsTyped tree.objects p
   cores-typed proper typed =
       let m =
-          main-there c
-          (kept (main_kept (main_definition c)) (λ h. typed _ (FileBreaks.no_main h refl))) in
+      main-there c
+      (kept (main_kept (main_definition c)) (λ h. typed _ (FileBreaks.no_main h refl))) in
       let f = finds-definition c tree.functions (main_in (map (λ (d : Definition). name_text names d.name) c.definitions))
-          m.definition (finds-main names c.definitions m.definition m.is) in
+      m.definition (finds-main names c.definitions m.definition m.is) in
       record {
         functions = functions-typed c p sourced tree.functions proper (unbroken typed);
         main = f.function;

@@ -1,33 +1,30 @@
 -- Split assignments: a put or a store into a global place, and a get from one.
-use Rattle.std.proofs.Common.{◌≡◌, refl, sym, ◌∙◌, ap, subst, ℕ, Bool, true, false, ◌&&◌, ◌||◌, List, [], ◌∷◌, ◌⊎◌, inl, inr}
+use Rattle.std.proofs.Common.{◌≡◌, refl, sym, subst, ℕ, Bool, true, false, ◌&&◌, List}
 use Rattle.std.specs.Prelude.{Option, Some, None, if◌then◌else◌}
 use Rattle.sc_base.specs.declared.shape.Star.{Star}
 use Rattle.sc_base.specs.declared.shape.Star.TheVariants as star
 use Rattle.sc_base.specs.declared.shape.Shape.{Shape}
-use Rattle.sc_base.specs.declared.shape.Ty.{Ty}
-use Rattle.sc_base.specs.declared.value.CopyMode.TheVariants.{Split}
 use Rattle.sc_tree.specs.PlainTyped.{TypedExpression}
 use Rattle.sc_typing.specs.declared.places.PlaceKind.{PlaceKind}
 use Rattle.sc_typing.specs.declared.places.PlaceKind.TheVariants as place
 use Rattle.sc_typing.specs.Types.{same_type, is_wide}
 use Rattle.sc_typing.specs.Places.{may_be_global, may_be_other}
-use Rattle.sc_typing.specs.Known.{Valued, fits, Judgement, standing_in, expression_for, met_expression}
+use Rattle.sc_typing.specs.Known.{Valued, Judgement, standing_in, expression_for}
 use Rattle.sc_typing.specs.Rules
 use Rattle.sc_typing.specs.Statements.{sent_as, sent_expression}
-use Rattle.sc_core.specs.declared.operation.Action.TheVariants as does
-use Rattle.sc_core.specs.Core.{Core, Does}
+use Rattle.sc_core.specs.Core.{Core}
 use Rattle.sc_core.specs.Places.{Found, value, local, cell, is_own, reaching}
-use Rattle.sc_core.specs.Expressions.{found, value_of}
-use Rattle.sc_core.specs.Statements.{splitting, placed}
+use Rattle.sc_core.specs.Expressions.{found}
+use Rattle.sc_core.specs.Statements.{splitting}
 use Rattle.sc_core.specs.Kinds.{Kind, kind_of, Scope}
 use Rattle.sc_core.specs.Kinds as kinds
 use Rattle.core_typing.proofs.Types.{left_of, right_of, no_more, same-stars}
 use Rattle.core_typing.proofs.Cores.{no-arguments, one-more, gives-eight}
-use Rattle.core_typing.proofs.Founds.{Reaches, IsCell, FoundIs, a_value, a_local, a_cell}
+use Rattle.core_typing.proofs.Founds.{Reaches, FoundIs, a_value, a_local, a_cell}
 use Rattle.core_typing.proofs.Finds.{Finds, value-gives}
 use Rattle.core_typing.proofs.Acts.{Acts, act-acts, act-one}
 use Rattle.core_typing.proofs.Judged.{left-fits}
-use Rattle.core_typing.proofs.Sound.{IsPlaced, nowhere, as_local, as_memory, Sound, standing-finds, standing-met}
+use Rattle.core_typing.proofs.Sound.{IsPlaced, as_memory, Sound, standing-met}
 
 -- a cell of memory whose node is part of its pointer
 data WideCell : Found → Type 0 where
@@ -98,7 +95,6 @@ module _ (objects : List Shape) (scope : Scope) where
       go false =
           act-acts scope line (one-more scope r.gives (one-more scope (value-gives objects scope f) (no-arguments scope)))
           (kinds.put r.is)
-
   sends one_way line (a_value g) w f = elim w [ ]
   sends one_way line (a_local b) w f = elim w [ ]
 
@@ -162,12 +158,12 @@ module _ (objects : List Shape) (scope : Scope) where
       let other = left_of (may_be_other left.place) (may_be_global right.place) both in
       let wide = right_of (may_be_other left.place) (may_be_global right.place) both in
       let same =
-          same-types left right a b e g
-          (right_of (may_be_other left.place && may_be_global right.place) (Rules.same_types left right) h) in
+      same-types left right a b e g
+      (right_of (may_be_other left.place && may_be_global right.place) (Rules.same_types left right) h) in
       let o = other-there left.place (found objects a.expression) s.placed other in
       let w = wide-there right.place (found objects b.expression) t.placed wide in
       let r : FoundIs scope a.ty.stars (found objects b.expression) =
-          subst (λ (ss : List Star). FoundIs scope ss (found objects b.expression)) (same-stars b.ty a.ty same) t.finds.is in
+      subst (λ (ss : List Star). FoundIs scope ss (found objects b.expression)) (same-stars b.ty a.ty same) t.finds.is in
       subst
       (λ (o : Option Valued). Acts scope (splitting objects (found objects (standing_in left.start o))
       (sent_as left.place o right) one_way line)) (sym e)

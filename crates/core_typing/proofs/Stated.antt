@@ -1,23 +1,19 @@
 -- A statement in which nothing is broken is typed in the core.
-use Rattle.std.proofs.Common.{◌≡◌, refl, sym, ◌∙◌, ap, subst, ℕ, zero, suc, ◌+◌, arith, Bool, true, false, ◌&&◌, List, [], ◌∷◌, ◌++◌, length}
-use Rattle.std.specs.Prelude.{Option, Some, None, pos, is_some, map}
+use Rattle.std.proofs.Common.{◌≡◌, refl, sym, subst, ℕ, arith, Bool, true, false, List, [], ◌∷◌, ◌++◌}
+use Rattle.std.specs.Prelude.{Option, Some, None, pos, is_some}
 use Rattle.std.specs.Int.{w64}
 use Rattle.std.proofs.lemmas.Int.{fits_signed_from_abs}
 use Rattle.sc_base.specs.declared.shape.Star.{Star}
 use Rattle.sc_base.specs.declared.shape.Shape.{Shape}
 use Rattle.sc_base.specs.declared.shape.Ty.{Ty}
 use Rattle.sc_tree.specs.Plain.{Expression, expression, name}
-use Rattle.sc_tree.specs.PlainStmt.{Declared, Statement, block, empty, declare, simple, split, choose, choose_else, while_, do_while, for_, for_mine, return, break, continue, Statements, no_statements, statements, Arm, arm, Arms, no_arms, arms}
+use Rattle.sc_tree.specs.PlainStmt.{Declared, Statement, declare, simple, split, while_, do_while, for_, for_mine, return, break, continue}
 use Rattle.sc_tree.specs.PlainTyped.{TypedExpression}
-use Rattle.sc_tree.specs.PlainTypedStmt.{TypedDeclared}
-use Rattle.sc_tree.specs.ViewTypedStmt.{typed_statements_of, typed_arms_of}
-use Rattle.sc_tree.specs.declared.typed.Named.TheVariants as named_as
 use Rattle.sc_typing.specs.declared.notes.Breach.{Breach}
 use Rattle.sc_typing.specs.declared.scope.InScope.{InScope}
-use Rattle.sc_typing.specs.Source.{Source}
 use Rattle.sc_typing.specs.Scope as typing
 use Rattle.sc_typing.specs.Scope.{innermost}
-use Rattle.sc_typing.specs.Known.{Valued, Judgement, standing_in, expression_for, met_expression, spot_at}
+use Rattle.sc_typing.specs.Known.{Valued, Judgement, standing_in, spot_at}
 use Rattle.sc_typing.specs.Rules
 use Rattle.sc_typing.specs.Naming.{named}
 use Rattle.sc_typing.specs.Typing.{judge}
@@ -25,33 +21,29 @@ use Rattle.sc_typing.specs.BrokenExpressions.{BrokenIn}
 use Rattle.sc_typing.specs.BrokenExpressions as inner
 use Rattle.sc_typing.specs.StatementParts.{Place, place, InSequence, InArms, InLocals, IsPart, Tests, Uses, Evaluates, used, whole, tested}
 use Rattle.sc_typing.specs.StatementParts as parts
-use Rattle.sc_typing.specs.BrokenStatements.{StatementBreaks, BrokenBy, here, in_expression, in_part}
-use Rattle.sc_typing.specs.BrokenStatements as breaks
+use Rattle.sc_typing.specs.BrokenStatements.{StatementBreaks, BrokenBy, here, in_expression}
 use Rattle.sc_typing.specs.Statements.{Within, after_all, after_arms, typed_value, typed_if, typed_split, local_number, typed_result, typed_statement, typed_all, typed_arms}
 use Rattle.sc_typing.specs.Statements as behind
 use Rattle.sc_typing.proofs.WellTyped.{unbroken-typed}
 use Rattle.sc_core.specs.Core.{Core, Does, nothing, act, loop, then_}
 use Rattle.sc_core.specs.Core as core
-use Rattle.sc_core.specs.Places.{is_pointer, last_of}
-use Rattle.sc_core.specs.Expressions.{value_of, found}
+use Rattle.sc_core.specs.Expressions.{value_of}
 use Rattle.sc_core.specs.Statements as statement
 use Rattle.sc_core.specs.Statements.{zero_of, optional, dropped, tested_if, mine_first, mine_test, mine_next, mine_loop}
-use Rattle.sc_core.specs.Lowering.{types_in, types_of, types_of_arms, returned, does_of, all_of, arms_of}
+use Rattle.sc_core.specs.Lowering.{types_in, returned, does_of}
 use Rattle.sc_core.specs.Kinds.{Kind, number, kind_of, kind_of_type, Scope, HasBegun, IsConstant, of_number, of_null}
-use Rattle.sc_core.specs.Typed.{begins, after, IsMineLoop, IsTypedDoes}
-use Rattle.core_typing.specs.Proper.{HasNumbers, IfGiven, IsNoDeclaration, IsProper, AreProper, ArmsAreProper}
-use Rattle.core_typing.proofs.Types.{no_more, one_of, right_of, points, int-kind, int-stars}
-use Rattle.core_typing.proofs.Made.{some-is}
+use Rattle.sc_core.specs.Typed.{begins, after, IsTypedDoes}
+use Rattle.core_typing.specs.Proper.{NumbersFit, IfGiven, IsNoDeclaration, IsProper}
+use Rattle.core_typing.proofs.Types.{no_more, one_of, right_of, points, int-kind}
 use Rattle.core_typing.proofs.Cores.{Gives, gives-as}
 use Rattle.core_typing.proofs.Finds.{Finds, value-gives}
 use Rattle.core_typing.proofs.Acts.{Acts, dropped-acts}
-use Rattle.core_typing.proofs.Sound.{Sound, standing-finds, standing-met}
+use Rattle.core_typing.proofs.Sound.{standing-finds, standing-met}
 use Rattle.core_typing.proofs.Seen.{Sees, AllBegun, innermost-begun}
-use Rattle.core_typing.proofs.JudgedNames.{Known}
 use Rattle.core_typing.proofs.Values.{known-value}
-use Rattle.core_typing.proofs.Counts.{keeps, kept-locals, arms-keep, count-of, count-of-arms}
-use Rattle.core_typing.proofs.Scopes.{begun-after, sees-after, Numbered, numbered-after, numbered-front, numbered-back, then-typed, choose-typed}
-use Rattle.core_typing.proofs.Declarations.{Fitted, AllFit, Declares, declares}
+use Rattle.core_typing.proofs.Counts.{keeps, kept-locals}
+use Rattle.core_typing.proofs.Scopes.{begun-after, Numbered, choose-typed}
+use Rattle.core_typing.proofs.Declarations.{AllFit, declares}
 use Rattle.core_typing.proofs.Splits.{IsSplit, is_put, is_get, split-acts}
 use Rattle.core_typing.proofs.Turns.{IsTurner, turner}
 
@@ -101,7 +93,7 @@ module _ (w : Within) where
 
   -- what stands in the tree for an expression that is used
   pub value-finds : (scope : Scope) (s : typing.Scope) (e : Expression) → Sees w.source scope → AllBegun scope s.locals →
-      HasNumbers e → (t : There (judge w.source s.locals 0 e)) →
+      NumbersFit e → (t : There (judge w.source s.locals 0 e)) →
       Finds w.source.objects scope (t.of).ty.stars (typed_value w.source s e)
   unfolding typed_value
   value-finds scope s e sees begun n t =
@@ -109,14 +101,14 @@ module _ (w : Within) where
       (known-value w.source scope sees s.locals begun e n t.of t.is).sound
 
   tested-typed : (scope : Scope) (s : typing.Scope) (e : Expression) → Sees w.source scope → AllBegun scope s.locals →
-      HasNumbers e → There (judge w.source s.locals 0 e) →
+      NumbersFit e → There (judge w.source s.locals 0 e) →
       IsTypedDoes scope result true false (statement.tested w.source.objects (typed_value w.source s e))
   tested-typed scope s e sees begun n t =
       choose-typed result true false w.source.objects scope nothing core.break
       (value-finds scope s e sees begun n t) tt refl
 
   dropped-typed : (scope : Scope) (s : typing.Scope) (e : Expression) → Sees w.source scope → AllBegun scope s.locals →
-      HasNumbers e → There (judge w.source s.locals 0 e) →
+      NumbersFit e → There (judge w.source s.locals 0 e) →
       Acts scope (dropped w.source.objects (typed_value w.source s e))
   dropped-typed scope s e sees begun n t =
       dropped-acts w.source.objects scope (value-finds scope s e sees begun n t)
@@ -146,7 +138,7 @@ module _ (w : Within) where
   -- ---- statements without parts
 
   pub simple-stated : (scope : Scope) (looped : Bool) (from : ℕ) (s : typing.Scope) (e : Expression) → Sees w.source scope →
-      HasNumbers e → AllBegun scope s.locals → Unbroken w (place looped from s) (simple e) →
+      NumbersFit e → AllBegun scope s.locals → Unbroken w (place looped from s) (simple e) →
       IsTypedDoes scope result looped looped (does_of w.source.objects w.result s.count (typed_statement w s (simple e)))
   unfolding does_of typed_value
   simple-stated scope looped from s e sees n begun u =
@@ -157,7 +149,7 @@ module _ (w : Within) where
       (statement.whole w.source.objects (standing_in j.start o))) (sym t.is) (a.does result looped looped)
 
   pub split-stated : (scope : Scope) (looped : Bool) (from : ℕ) (s : typing.Scope) (left right : Expression) (oneway : Bool)
-      (at line : ℕ) → Sees w.source scope → HasNumbers left → HasNumbers right → AllBegun scope s.locals →
+      (at line : ℕ) → Sees w.source scope → NumbersFit left → NumbersFit right → AllBegun scope s.locals →
       Unbroken w (place looped from s) (split left right oneway at line) →
       IsSplit (judge w.source s.locals 0 left) (judge w.source s.locals 0 right) →
       IsTypedDoes scope result looped looped
@@ -195,8 +187,8 @@ module _ (w : Within) where
       let t = uses w p (return (Some e) at line) s e u parts.returned in
       let k = kept (Rules.return_kept w.result (Some j)) (λ h. u _ (here (StatementBreaks.return_broken h))) in
       let fit =
-          subst (λ (o : Option Valued). Rules.fit o w.result ≡ true) t.is
-          (right_of (Rules.opposite w.result.void) (Rules.fit j.known w.result) k) in
+      subst (λ (o : Option Valued). Rules.fit o w.result ≡ true) t.is
+      (right_of (Rules.opposite w.result.void) (Rules.fit j.known w.result) k) in
       (value-gives w.source.objects scope
       (standing-met w.source.objects scope j w.result t.is
       (known-value w.source scope sees s.locals begun e n t.of t.is).sound fit)).has
@@ -242,7 +234,7 @@ module _ (w : Within) where
   unfolding does_of
   declare-stated scope looped from s locals sees p begun n u =
       let d =
-          declares w.source result looped looped locals scope s sees begun n p (fitting-locals looped from s locals u) in
+      declares w.source result looped looped locals scope s sees begun n p (fitting-locals looped from s locals u) in
       record { typed = d.typed; begun = d.begun }
 
   -- ---- loops
@@ -289,24 +281,30 @@ module _ (w : Within) where
   Body scope s body = IsTypedDoes scope result true true (does_of w.source.objects w.result s.count (typed_statement w s body))
 
   pub while-stated : (scope : Scope) (looped : Bool) (from : ℕ) (s : typing.Scope) (test : Expression) (body : Statement) →
-      Sees w.source scope → HasNumbers test → AllBegun scope s.locals →
+      Sees w.source scope → NumbersFit test → AllBegun scope s.locals →
       Unbroken w (place looped from s) (while_ test body) → Body scope s body →
       IsTypedDoes scope result looped looped
       (does_of w.source.objects w.result s.count (typed_statement w s (while_ test body)))
   unfolding does_of
-  while-stated scope looped from s test body sees n begun u b =
-      (tested-typed scope s test sees begun n
-      (uses w (place looped from s) (while_ test body) s test u (tested parts.of_while)), b, tt)
+  while-stated scope looped from s test body sees n begun u b = (
+    tested-typed scope s test sees begun n
+        (uses w (place looped from s) (while_ test body) s test u (tested parts.of_while)),
+    b,
+    tt,
+  )
 
   pub do-stated : (scope : Scope) (looped : Bool) (from : ℕ) (s : typing.Scope) (body : Statement) (test : Expression) →
-      Sees w.source scope → HasNumbers test → AllBegun scope (behind.after s body).locals →
+      Sees w.source scope → NumbersFit test → AllBegun scope (behind.after s body).locals →
       Unbroken w (place looped from s) (do_while body test) → Body scope s body →
       IsTypedDoes scope result looped looped
       (does_of w.source.objects w.result s.count (typed_statement w s (do_while body test)))
   unfolding does_of
-  do-stated scope looped from s body test sees n begun u b =
-      (tt, b, tested-typed scope (behind.after s body) test sees begun n
-      (uses w (place looped from s) (do_while body test) (behind.after s body) test u (tested parts.of_do)))
+  do-stated scope looped from s body test sees n begun u b = (
+    tt,
+    b,
+    tested-typed scope (behind.after s body) test sees begun n
+        (uses w (place looped from s) (do_while body test) (behind.after s body) test u (tested parts.of_do)),
+  )
 
   pub for-stated : (scope : Scope) (looped : Bool) (from : ℕ) (s : typing.Scope) (first test next : Option Expression)
       (body : Statement) → Sees w.source scope → IfGiven first → IfGiven test → IfGiven next → AllBegun scope s.locals →
@@ -318,16 +316,17 @@ module _ (w : Within) where
       let p = place looped from s in
       let f = optional-acts scope s first sees begun nf (for-parts p first test next body u) in
       let t = tested_if-typed scope s test sees begun nt (for-tests p first test next body u) in
-      let n = optional-acts scope s next sees begun nn (for-nexts p first test next body u) in
-      (f.does result looped looped,
-      subst
-      (λ (xs : List ℕ). IsTypedDoes (record scope { begun = xs ++ scope.begun }) result looped looped
-      (then_
-      (loop None (tested_if w.source.objects (typed_if w.source s test))
-      (does_of w.source.objects w.result s.count (typed_statement w s body))
-      (optional w.source.objects (typed_if w.source s next))) nothing))
-      (sym (optional-begins w.source.objects (typed_if w.source s first)))
-      ((t, b, n.does result true false), tt))
+      let n = optional-acts scope s next sees begun nn (for-nexts p first test next body u) in (
+        f.does result looped looped,
+        subst
+            (λ (xs : List ℕ). IsTypedDoes (record scope { begun = xs ++ scope.begun }) result looped looped
+            (then_
+            (loop None (tested_if w.source.objects (typed_if w.source s test))
+            (does_of w.source.objects w.result s.count (typed_statement w s body))
+            (optional w.source.objects (typed_if w.source s next))) nothing))
+            (sym (optional-begins w.source.objects (typed_if w.source s first)))
+            ((t, b, n.does result true false), tt),
+      )
 
   -- the name of a `for_my_1d`
   turns-name : (p : Place) (n : ℕ) (bound : Expression) (body : Statement) (at line : ℕ) →
@@ -348,21 +347,24 @@ module _ (w : Within) where
       IsTypedDoes scope result breaks continues (mine_loop (local_number (innermost n s.locals)) bound body line)
   mine-typed scope breaks continues s n bound body line begun t g b =
       subst (λ (o : Option InScope). IsTypedDoes scope result breaks continues (mine_loop (local_number o) bound body line))
-      (sym t.is)
-      (record {
-        bound = bound;
-        line = line;
-        counts =
-            subst (λ (k : Kind). HasBegun scope (t.it).number k) (int-kind (t.it).ty t.number)
-            (innermost-begun scope n t.it s.locals begun t.is);
-        bounded = g.has;
-        begins_at = refl;
-        tests = refl;
-        goes_on = refl;
-      }, b, tt)
+      (sym t.is) (
+        record {
+          bound = bound;
+          line = line;
+          counts =
+              subst (λ (k : Kind). HasBegun scope (t.it).number k) (int-kind (t.it).ty t.number)
+              (innermost-begun scope n t.it s.locals begun t.is);
+          bounded = g.has;
+          begins_at = refl;
+          tests = refl;
+          goes_on = refl;
+        },
+        b,
+        tt,
+      )
 
   pub mine-stated : (scope : Scope) (looped : Bool) (from : ℕ) (s : typing.Scope) (n : ℕ) (bound : Expression)
-      (body : Statement) (at line : ℕ) → Sees w.source scope → HasNumbers bound → AllBegun scope s.locals →
+      (body : Statement) (at line : ℕ) → Sees w.source scope → NumbersFit bound → AllBegun scope s.locals →
       Unbroken w (place looped from s) (for_mine n bound body at line) → Body scope s body →
       IsTypedDoes scope result looped looped
       (does_of w.source.objects w.result s.count (typed_statement w s (for_mine n bound body at line)))
@@ -372,11 +374,11 @@ module _ (w : Within) where
       let j = judge w.source s.locals 0 bound in
       let t = uses w p (for_mine n bound body at line) s bound u parts.for_bound in
       let whole_number =
-          subst (λ (o : Option Valued). Rules.bound_kept o ≡ true) t.is
-          (kept (Rules.bound_kept j.known) (λ h. u _ (here (StatementBreaks.bound_no_int h)))) in
+      subst (λ (o : Option Valued). Rules.bound_kept o ≡ true) t.is
+      (kept (Rules.bound_kept j.known) (λ h. u _ (here (StatementBreaks.bound_no_int h)))) in
       let g =
-          gives-as scope (int-kind (t.of).ty whole_number)
-          (value-gives w.source.objects scope (value-finds scope s bound sees begun m t)) in
+      gives-as scope (int-kind (t.of).ty whole_number)
+      (value-gives w.source.objects scope (value-finds scope s bound sees begun m t)) in
       mine-typed scope looped looped s n (value_of w.source.objects (typed_value w.source s bound))
       (does_of w.source.objects w.result s.count (typed_statement w s body)) line begun
       (turns-name p n bound body at line u) g b

@@ -1,22 +1,19 @@
 -- The name of a `for_my_1d` is a local whole number that has begun.
-use Rattle.std.proofs.Common.{◌≡◌, refl, sym, ◌∙◌, ap, subst, ℕ, Bool, true, false, ◌&&◌, List, [], ◌∷◌, min}
-use Rattle.std.specs.Prelude.{Option, Some, None, slice_get, is_some, if◌then◌else◌}
+use Rattle.std.proofs.Common.{◌≡◌, refl, subst, ℕ, Bool, true, false, List, min}
+use Rattle.std.specs.Prelude.{Option, Some, None, slice_get, is_some}
 use Rattle.sc_base.specs.declared.shape.Shape.{Shape}
-use Rattle.sc_tree.specs.Plain.{Expression, expression, name}
 use Rattle.sc_typing.specs.declared.file.Meaning.{Meaning}
 use Rattle.sc_typing.specs.declared.file.Meaning.TheVariants as means
 use Rattle.sc_typing.specs.declared.known.Spot.{Spot}
 use Rattle.sc_typing.specs.declared.places.PlaceKind.{PlaceKind}
-use Rattle.sc_typing.specs.declared.places.PlaceKind.TheVariants as place
 use Rattle.sc_typing.specs.declared.scope.InScope.{InScope}
 use Rattle.sc_typing.specs.Types.{is_int}
-use Rattle.sc_typing.specs.Known.{Valued, Judgement}
 use Rattle.sc_typing.specs.Source.{Source, meaning_of, dimensions, has_its_indices}
 use Rattle.sc_typing.specs.Scope.{innermost}
 use Rattle.sc_typing.specs.Places.{may_be_local, object_place}
 use Rattle.sc_typing.specs.Naming.{object_value, object_if, object_named, meaning_named, name_in, named}
 use Rattle.sc_typing.specs.Rules
-use Rattle.core_typing.proofs.Types.{left_of, right_of, no_more}
+use Rattle.core_typing.proofs.Types.{left_of, no_more}
 use Rattle.core_typing.proofs.JudgedNames.{Stands, with_all, with_most, stands}
 
 pub record IsTurner (locals : List InScope) (n : ℕ) : Type 0 where

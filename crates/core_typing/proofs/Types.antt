@@ -1,5 +1,5 @@
 -- What types say of kinds: types that fit have one kind, and which last star a pointer's type has.
-use Rattle.std.proofs.Common.{◌≡◌, refl, sym, ◌∙◌, ap, subst, ℕ, zero, suc, ◌+◌, ◌-◌, arith, Bool, true, false, ◌&&◌, ◌||◌, List, [], ◌∷◌, ◌++◌, length, take}
+use Rattle.std.proofs.Common.{◌≡◌, refl, sym, ◌∙◌, ap, suc, ◌-◌, arith, Bool, true, false, ◌&&◌, ◌||◌, List, [], ◌∷◌, ◌++◌, length, take}
 use Rattle.std.specs.Prelude.{Option, Some, None, slice_get, if◌then◌else◌}
 use Rattle.std.specs.Cmp.Lexicographic.{pointwise}
 use Rattle.sc_base.specs.declared.shape.Star.{Star}
@@ -8,8 +8,8 @@ use Rattle.sc_base.specs.declared.shape.Ty.{Ty}
 use Rattle.sc_typing.specs.Types as types
 use Rattle.sc_typing.specs.Types.{int, pointer, element, last_star, same_bool, same_star, same_type, has_stars, is_int, is_star, widens}
 use Rattle.sc_typing.specs.Known.{fits}
-use Rattle.sc_core.specs.Places.{last_of, is_own, is_wide, is_pointer, without_last}
-use Rattle.sc_core.specs.Kinds.{Kind, number, to, kind_of}
+use Rattle.sc_core.specs.Places.{last_of, without_last}
+use Rattle.sc_core.specs.Kinds.{number, to, kind_of}
 
 -- ---- tests
 

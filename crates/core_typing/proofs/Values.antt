@@ -1,7 +1,6 @@
 -- Every judged expression that has a type comes to what the type says, and is typed as a whole statement.
-use Rattle.std.proofs.Common.{◌≡◌, refl, sym, ◌∙◌, ap, subst, ℕ, true, false, Bool, List, [], ◌∷◌}
+use Rattle.std.proofs.Common.{◌≡◌, sym, ◌∙◌, subst, ℕ, true, List}
 use Rattle.std.specs.Prelude.{Option, Some, None}
-use Rattle.sc_base.specs.declared.shape.Shape.{Shape}
 use Rattle.sc_tree.specs.Plain.{Expression, expression, Kind, number, null, my_proc, procs, size_int, name, format}
 use Rattle.sc_tree.specs.Plain.{chain, both, either, choice, assign, step, plus, prefix, deref, address, cast, postfix}
 use Rattle.sc_tree.specs.Plain.{call, Expressions, no_expressions, expressions, link, Links, no_links, links}
@@ -10,18 +9,18 @@ use Rattle.sc_typing.specs.declared.calls.Given.{Given}
 use Rattle.sc_typing.specs.declared.known.Spot.{Spot}
 use Rattle.sc_typing.specs.declared.scope.InScope.{InScope}
 use Rattle.sc_typing.specs.Source.{Source}
-use Rattle.sc_typing.specs.Known.{Valued, Judgement}
+use Rattle.sc_typing.specs.Known.{Valued}
 use Rattle.sc_typing.specs.Operators.{Gathered}
 use Rattle.sc_typing.specs.Chains.{Linked}
 use Rattle.sc_typing.specs.Tails.{Tailed, Tailing}
 use Rattle.sc_typing.specs.Naming.{called_meaning, format_given, leading}
 use Rattle.sc_typing.specs.Typing.{nothing_gathered, judge, judge_kind, judge_links, judge_operands, judge_tails, judge_behind, judge_arguments}
 use Rattle.sc_core.specs.Kinds.{Scope}
-use Rattle.core_typing.specs.Proper.{HasNumbers, KindHasNumbers, HaveNumbers, LinksHaveNumbers, TailHasNumbers, TailsHaveNumbers}
+use Rattle.core_typing.specs.Proper.{NumbersFit, NumbersOfKindFit, NumbersOfAllFit, NumbersOfLinksFit, NumbersOfTailFit, NumbersOfTailsFit}
 use Rattle.core_typing.proofs.Made
 use Rattle.core_typing.proofs.Made.{never_some}
 use Rattle.core_typing.proofs.Seen.{Sees, AllBegun}
-use Rattle.core_typing.proofs.Sound.{Sound, Knows, Whole}
+use Rattle.core_typing.proofs.Sound.{Knows}
 use Rattle.core_typing.proofs.Lists.{AllFind, none_found}
 use Rattle.core_typing.proofs.Judged as judged
 use Rattle.core_typing.proofs.JudgedChains as chains
@@ -44,13 +43,13 @@ knows {c = c} {scope = scope} locals e sees f = λ v h. (known-first c scope (ju
 
 mutual
   first-value : (c : Source) (scope : Scope) (sees : Sees c scope) (locals : List InScope) (begun : AllBegun scope locals) (i : ℕ)
-      (e : Expression) → HasNumbers e → (v : Valued) → (judge c locals i e).known ≡ Some v →
+      (e : Expression) → NumbersFit e → (v : Valued) → (judge c locals i e).known ≡ Some v →
       First c.objects scope c i (judge c locals i e) v
   first-value c scope sees locals begun i (expression k start at line) n v h =
       first-kind c scope sees locals begun i (record { start = start; at = at; line = line }) k n v h
 
   first-kind : (c : Source) (scope : Scope) (sees : Sees c scope) (locals : List InScope) (begun : AllBegun scope locals) (i : ℕ)
-      (spot : Spot) (k : Kind) → KindHasNumbers k → (v : Valued) → (judge_kind c locals i k spot).known ≡ Some v →
+      (spot : Spot) (k : Kind) → NumbersOfKindFit k → (v : Valued) → (judge_kind c locals i k spot).known ≡ Some v →
       First c.objects scope c i (judge_kind c locals i k spot) v
   first-kind c scope sees locals begun i spot (number m) n v h =
       a_whole (judged.number-whole c.objects scope m spot v n h)
@@ -120,7 +119,7 @@ mutual
       (all-behind c scope sees locals begun (format_given (called_meaning c locals x) args) args n) h)
 
   all-links : (c : Source) (scope : Scope) (sees : Sees c scope) (locals : List InScope) (begun : AllBegun scope locals)
-      (rest : Links) → LinksHaveNumbers rest → (l : Linked) → Linking c.objects scope l → (k : Linked) →
+      (rest : Links) → NumbersOfLinksFit rest → (l : Linked) → Linking c.objects scope l → (k : Linked) →
       judge_links c locals (Some l) rest ≡ Some k → Linking c.objects scope k
   all-links c scope sees locals begun no_links n l x k h =
       subst (λ (k : Linked). Linking c.objects scope k) (Made.some-is l k h) x
@@ -130,7 +129,7 @@ mutual
       (all-links c scope sees locals begun more n.1) k h
 
   all-operands : (c : Source) (scope : Scope) (sees : Sees c scope) (locals : List InScope) (begun : AllBegun scope locals)
-      (all : Expressions) → HaveNumbers all → (g : Gathered) → AllFind c.objects scope g.all →
+      (all : Expressions) → NumbersOfAllFit all → (g : Gathered) → AllFind c.objects scope g.all →
       (judge_operands c locals g all).whole ≡ true → AllFind c.objects scope (judge_operands c locals g all).all
   all-operands c scope sees locals begun no_expressions n g fs h = fs
   all-operands c scope sees locals begun (expressions e more) n g fs h =
@@ -139,7 +138,7 @@ mutual
       (all-operands c scope sees locals begun more n.1) fs h
 
   all-tails : (c : Source) (scope : Scope) (sees : Sees c scope) (locals : List InScope) (begun : AllBegun scope locals)
-      (rest : Tails) → TailsHaveNumbers rest → (t : Tailing) (td : Tailed) → t.tailed ≡ Some td →
+      (rest : Tails) → NumbersOfTailsFit rest → (t : Tailing) (td : Tailed) → t.tailed ≡ Some td →
       TailState c scope sees rest t td → (last : Tailed) → (judge_tails c locals t rest).tailed ≡ Some last →
       TailState c scope sees no_tails (judge_tails c locals t rest) last
   all-tails c scope sees locals begun no_tails n t td same state last h =
@@ -149,13 +148,13 @@ mutual
       (all-tails c scope sees locals begun more n.1) last h
 
   one-tail : (c : Source) (scope : Scope) (sees : Sees c scope) (locals : List InScope) (begun : AllBegun scope locals)
-      (tail : Tail) → TailHasNumbers tail → TailKnows c scope sees locals tail
+      (tail : Tail) → NumbersOfTailFit tail → TailKnows c scope sees locals tail
   one-tail c scope sees locals begun (index e at line) n = knows locals e sees (first-value c scope sees locals begun 0 e n)
   one-tail c scope sees locals begun (up at line) n = tt
   one-tail c scope sees locals begun (down at line) n = tt
 
   all-behind : (c : Source) (scope : Scope) (sees : Sees c scope) (locals : List InScope) (begun : AllBegun scope locals)
-      (given : Option Given) (args : Expressions) → HaveNumbers args →
+      (given : Option Given) (args : Expressions) → NumbersOfAllFit args →
       AllKnown c.objects scope (judge_behind c locals given args)
   all-behind c scope sees locals begun given no_expressions n = none_known
   all-behind c scope sees locals begun None (expressions e more) n =
@@ -164,7 +163,7 @@ mutual
   all-behind c scope sees locals begun (Some g) (expressions e more) n = all-arguments c scope sees locals begun more n.1
 
   all-arguments : (c : Source) (scope : Scope) (sees : Sees c scope) (locals : List InScope) (begun : AllBegun scope locals)
-      (args : Expressions) → HaveNumbers args → AllKnown c.objects scope (judge_arguments c locals args)
+      (args : Expressions) → NumbersOfAllFit args → AllKnown c.objects scope (judge_arguments c locals args)
   all-arguments c scope sees locals begun no_expressions n = none_known
   all-arguments c scope sees locals begun (expressions e more) n =
       more_known (knows locals e sees (first-value c scope sees locals begun 0 e n.0))
@@ -172,7 +171,7 @@ mutual
 
 -- what a judged expression comes to where it has a type, and what it does as a whole statement
 pub known-value : (c : Source) (scope : Scope) → Sees c scope → (locals : List InScope) → AllBegun scope locals →
-    (e : Expression) → HasNumbers e → (v : Valued) → (judge c locals 0 e).known ≡ Some v →
+    (e : Expression) → NumbersFit e → (v : Valued) → (judge c locals 0 e).known ≡ Some v →
     Known c.objects scope (judge c locals 0 e) v
 known-value c scope sees locals begun e n v h =
     known-first c scope (judge c locals 0 e) v sees (first-value c scope sees locals begun 0 e n v h)

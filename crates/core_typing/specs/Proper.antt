@@ -1,59 +1,64 @@
 -- What the grammar keeps of a tree, whatever typing says of it: each number has 64 bits, and what an `if` or a loop
 -- guards is a statement and no declaration of locals.
-use Rattle.std.specs.Prelude.{ℕ, Option, Some, None, List, FitsSigned}
+use Rattle.std.specs.Prelude.{Option, Some, None, FitsSigned}
 use Rattle.std.specs.Int.{w64}
 use Rattle.std.specs.List.{All}
-use Rattle.sc_tree.specs.Plain.{Expression, expression, Kind, number, null, my_proc, procs, size_int, name, format, chain, both, either, choice, assign, step, plus, prefix, deref, address, cast, postfix, call, Expressions, no_expressions, expressions, Link, link, Links, no_links, links, Tail, index, up, down, Tails, no_tails, tails}
-use Rattle.sc_tree.specs.PlainStmt.{Declared, Statement, block, empty, declare, simple, split, choose, choose_else, while_, do_while, for_, for_mine, return, break, continue, Statements, no_statements, statements, Arm, arm, Arms, no_arms, arms}
+use Rattle.sc_tree.specs.Plain.{Expression, expression, Kind, number, null, my_proc, procs, size_int, name, format}
+use Rattle.sc_tree.specs.Plain.{chain, both, either, choice, assign, step, plus, prefix, deref, address, cast, postfix}
+use Rattle.sc_tree.specs.Plain.{call, Expressions, no_expressions, expressions, link, Links, no_links, links, Tail}
+use Rattle.sc_tree.specs.Plain.{index, up, down, Tails, no_tails, tails}
+use Rattle.sc_tree.specs.PlainStmt.{Declared, Statement, block, empty, declare, simple, split, choose, choose_else}
+use Rattle.sc_tree.specs.PlainStmt.{while_, do_while, for_, for_mine, return, break, continue, Statements}
+use Rattle.sc_tree.specs.PlainStmt.{no_statements, statements, arm, Arms, no_arms, arms}
 use Rattle.sc_tree.specs.PlainTree.{PlainFunction, PlainTree}
 
 -- each number in the expression has 64 bits
 abbrev mutual
-  pub HasNumbers : Expression → Type 0
-  HasNumbers (expression kind start at line) = KindHasNumbers kind
+  pub NumbersFit : Expression → Type 0
+  NumbersFit (expression kind start at line) = NumbersOfKindFit kind
 
-  pub KindHasNumbers : Kind → Type 0
-  KindHasNumbers (number n) = FitsSigned w64 n
-  KindHasNumbers null = Unit {0}
-  KindHasNumbers my_proc = Unit {0}
-  KindHasNumbers procs = Unit {0}
-  KindHasNumbers size_int = Unit {0}
-  KindHasNumbers (name n) = Unit {0}
-  KindHasNumbers (format f) = Unit {0}
-  KindHasNumbers (chain first rest) = HasNumbers first × LinksHaveNumbers rest
-  KindHasNumbers (both all) = HaveNumbers all
-  KindHasNumbers (either all) = HaveNumbers all
-  KindHasNumbers (choice test on off) = HasNumbers test × HasNumbers on × HasNumbers off
-  KindHasNumbers (assign op left right) = HasNumbers left × HasNumbers right
-  KindHasNumbers (step is_up e) = HasNumbers e
-  KindHasNumbers (plus e) = HasNumbers e
-  KindHasNumbers (prefix op e) = HasNumbers e
-  KindHasNumbers (deref e) = HasNumbers e
-  KindHasNumbers (address e) = HasNumbers e
-  KindHasNumbers (cast stars e) = HasNumbers e
-  KindHasNumbers (postfix first rest) = HasNumbers first × TailsHaveNumbers rest
-  KindHasNumbers (call n args) = HaveNumbers args
+  pub NumbersOfKindFit : Kind → Type 0
+  NumbersOfKindFit (number n) = FitsSigned w64 n
+  NumbersOfKindFit null = Unit {0}
+  NumbersOfKindFit my_proc = Unit {0}
+  NumbersOfKindFit procs = Unit {0}
+  NumbersOfKindFit size_int = Unit {0}
+  NumbersOfKindFit (name n) = Unit {0}
+  NumbersOfKindFit (format f) = Unit {0}
+  NumbersOfKindFit (chain first rest) = NumbersFit first × NumbersOfLinksFit rest
+  NumbersOfKindFit (both all) = NumbersOfAllFit all
+  NumbersOfKindFit (either all) = NumbersOfAllFit all
+  NumbersOfKindFit (choice test on off) = NumbersFit test × NumbersFit on × NumbersFit off
+  NumbersOfKindFit (assign op left right) = NumbersFit left × NumbersFit right
+  NumbersOfKindFit (step is_up e) = NumbersFit e
+  NumbersOfKindFit (plus e) = NumbersFit e
+  NumbersOfKindFit (prefix op e) = NumbersFit e
+  NumbersOfKindFit (deref e) = NumbersFit e
+  NumbersOfKindFit (address e) = NumbersFit e
+  NumbersOfKindFit (cast stars e) = NumbersFit e
+  NumbersOfKindFit (postfix first rest) = NumbersFit first × NumbersOfTailsFit rest
+  NumbersOfKindFit (call n args) = NumbersOfAllFit args
 
-  pub HaveNumbers : Expressions → Type 0
-  HaveNumbers no_expressions = Unit {0}
-  HaveNumbers (expressions e more) = HasNumbers e × HaveNumbers more
+  pub NumbersOfAllFit : Expressions → Type 0
+  NumbersOfAllFit no_expressions = Unit {0}
+  NumbersOfAllFit (expressions e more) = NumbersFit e × NumbersOfAllFit more
 
-  pub LinksHaveNumbers : Links → Type 0
-  LinksHaveNumbers no_links = Unit {0}
-  LinksHaveNumbers (links (link op e at line) more) = HasNumbers e × LinksHaveNumbers more
+  pub NumbersOfLinksFit : Links → Type 0
+  NumbersOfLinksFit no_links = Unit {0}
+  NumbersOfLinksFit (links (link op e at line) more) = NumbersFit e × NumbersOfLinksFit more
 
-  pub TailHasNumbers : Tail → Type 0
-  TailHasNumbers (index e at line) = HasNumbers e
-  TailHasNumbers (up at line) = Unit {0}
-  TailHasNumbers (down at line) = Unit {0}
+  pub NumbersOfTailFit : Tail → Type 0
+  NumbersOfTailFit (index e at line) = NumbersFit e
+  NumbersOfTailFit (up at line) = Unit {0}
+  NumbersOfTailFit (down at line) = Unit {0}
 
-  pub TailsHaveNumbers : Tails → Type 0
-  TailsHaveNumbers no_tails = Unit {0}
-  TailsHaveNumbers (tails tail more) = TailHasNumbers tail × TailsHaveNumbers more
+  pub NumbersOfTailsFit : Tails → Type 0
+  NumbersOfTailsFit no_tails = Unit {0}
+  NumbersOfTailsFit (tails tail more) = NumbersOfTailFit tail × NumbersOfTailsFit more
 
 abbrev pub IfGiven : Option Expression → Type 0
 IfGiven None = Unit {0}
-IfGiven (Some e) = HasNumbers e
+IfGiven (Some e) = NumbersFit e
 
 abbrev pub IsNoDeclaration : Statement → Type 0
 IsNoDeclaration (declare locals) = ⊥
@@ -64,15 +69,15 @@ abbrev mutual
   IsProper (block all) = AreProper all
   IsProper empty = Unit {0}
   IsProper (declare locals) = All (λ (l : Declared). IfGiven l.init) locals
-  IsProper (simple e) = HasNumbers e
-  IsProper (split left right oneway at line) = HasNumbers left × HasNumbers right
+  IsProper (simple e) = NumbersFit e
+  IsProper (split left right oneway at line) = NumbersFit left × NumbersFit right
   IsProper (choose all) = ArmsAreProper all
   IsProper (choose_else all rest) = ArmsAreProper all × IsNoDeclaration rest × IsProper rest
-  IsProper (while_ test body) = HasNumbers test × IsNoDeclaration body × IsProper body
-  IsProper (do_while body test) = HasNumbers test × IsNoDeclaration body × IsProper body
+  IsProper (while_ test body) = NumbersFit test × IsNoDeclaration body × IsProper body
+  IsProper (do_while body test) = NumbersFit test × IsNoDeclaration body × IsProper body
   IsProper (for_ first test next body) =
       IfGiven first × IfGiven test × IfGiven next × IsNoDeclaration body × IsProper body
-  IsProper (for_mine n bound body at line) = HasNumbers bound × IsNoDeclaration body × IsProper body
+  IsProper (for_mine n bound body at line) = NumbersFit bound × IsNoDeclaration body × IsProper body
   IsProper (return value at line) = IfGiven value
   IsProper (break at) = Unit {0}
   IsProper (continue at) = Unit {0}
@@ -84,7 +89,7 @@ abbrev mutual
   pub ArmsAreProper : Arms → Type 0
   ArmsAreProper no_arms = Unit {0}
   ArmsAreProper (arms (arm test body) more) =
-      HasNumbers test × IsNoDeclaration body × IsProper body × ArmsAreProper more
+      NumbersFit test × IsNoDeclaration body × IsProper body × ArmsAreProper more
 
 abbrev pub IsProperBody : Option Statements → Type 0
 IsProperBody None = Unit {0}
