@@ -7,3 +7,4 @@ pub mod Picked
 pub mod Orderly
 pub mod Journal
 pub mod Complete
+pub mod Calm

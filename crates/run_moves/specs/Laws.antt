@@ -4,7 +4,9 @@ use Rattle.sc_base.specs.declared.value.End.{End}
 use Rattle.sc_base.specs.declared.value.End.TheVariants.{Waiting}
 use Rattle.effect_order.specs.Lists.{In}
 use Rattle.resumption.specs.Resumption.{Asks, Makes, Says, Stops, Ends}
-use Rattle.sc_isa.specs.Run.{Issue, Wait, Arrive, Pass, Landed, Passed, Broken, Finish, Stuck, UsedUp, NodeDoing}
+use Rattle.sc_layout.specs.Layout.{Arrangement}
+use Rattle.sc_isa.specs.Run.{Issue, Wait, Arrive, Pass, Landed, Passed, Broken, Finish, Stuck, UsedUp, NodeDoing, node_asks}
+use Rattle.sc_isa.specs.declared.code.Code.{Code}
 use Rattle.sc_isa.specs.declared.journal.Entry.{Entry}
 use Rattle.fabric.specs.Asked.{Machine, run_so_far, next_ask}
 use Rattle.fabric.specs.Legal.{EntryAllowed, LegalPast, IsLegalJournal, IsCompleteJournal}
@@ -52,3 +54,8 @@ SimulatedRunsAreComplete =
     (machine : Machine) (picks : ℕ → ℕ) (journal : List Entry) → AllOrderly machine → IsSimulation machine picks journal
     → ((node : ℕ) → node < machine.nodes → IsKnown machine (reverse journal) node)
     → IsLegalJournal machine journal × IsCompleteJournal machine journal
+
+-- the code of a node is orderly, whatever it is, by any number of instructions
+abbrev pub CodeIsOrderly : Type 0
+CodeIsOrderly =
+    (code : Code) (layout : Arrangement) (node budget many : ℕ) → IsOrderly false (node_asks code layout node budget many)

@@ -2,7 +2,7 @@
 //! function with an empty body; nothing of it runs.
 #![tactic(auto)]
 
-ghost use Rattle.run_moves.specs.Laws.{MovesAreAllowed, PicksDetermineTheRun, SimulatedRunsAreComplete};
+ghost use Rattle.run_moves.specs.Laws.{MovesAreAllowed, PicksDetermineTheRun, SimulatedRunsAreComplete, CodeIsOrderly};
 
 /// The moves after a legal journal are exactly the entries that are allowed next: what the nodes ask for and the fabric
 /// allows, and the deliveries of the messages in flight.
@@ -19,4 +19,9 @@ pub fn picks_determine_the_run()
 /// next.
 pub fn simulated_runs_are_complete()
     ensures { SimulatedRunsAreComplete }
+{}
+
+/// The code of a node asks to pass exactly where it has arrived, and ends as waiting exactly where its barrier is broken.
+pub fn code_is_orderly()
+    ensures { CodeIsOrderly }
 {}
