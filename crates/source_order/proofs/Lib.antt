@@ -38,3 +38,10 @@ pub mod Blocks
 pub mod PlainRuns
 pub mod PlainOrder
 pub mod Once
+pub mod Setting
+pub mod Plain
+pub mod Exact
+pub mod Examples
+pub mod Late
+pub mod Rules
+mod Ruled
