@@ -4,7 +4,7 @@ use Rattle.std.proofs.lemmas.List.{append-nil, map-append}
 use Rattle.sc_tree.specs.declared.token.Token.{Token}
 use Rattle.sc_grammar.specs.declared.error.Refused.{Refused}
 use Rattle.sc_grammar.specs.declared.error.Refused.TheVariants.{Memory, Syntax, Deep}
-use Rattle.sc_grammar.specs.Reading.{syntax, deep, Fails, Parser, Out, got, refused, Refusal, and_then, with_front, many, many_by, bind, pure}
+use Rattle.sc_grammar.proofs.Reading.{syntax, deep, Fails, Parser, Out, got, refused, Refusal, and_then, with_front, many, many_by, bind, pure}
 
 pub more_left : (i end : ℕ) → i < end → end - i ≡ suc (end - (i + 1))
 more_left i end h = omega arith

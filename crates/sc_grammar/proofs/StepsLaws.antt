@@ -3,8 +3,8 @@ use Rattle.std.proofs.Common.{◌≡◌, refl, ap, sym, ℕ, ◌+◌, ◌-◌, �
 use Rattle.std.proofs.lemmas.List.{append-nil}
 use Rattle.sc_tree.specs.declared.token.Token.{Token}
 use Rattle.sc_base.specs.declared.shape.BoundStep.{BoundStep}
-use Rattle.sc_grammar.specs.Reading.{Parser, Out, got, refused, Refusal, and_then, many_by}
-use Rattle.sc_grammar.specs.ReadingItems.{steps_in}
+use Rattle.sc_grammar.proofs.Reading.{Parser, Out, got, refused, Refusal, and_then, many_by}
+use Rattle.sc_grammar.proofs.ReadingItems.{steps_in}
 use Rattle.sc_grammar.proofs.ManyLaws.{Collects, turn_more, turn_stop, turn_fail, turn_end}
 
 abbrev pub with_steps : List BoundStep → Out (List (List BoundStep)) → Out (List BoundStep)

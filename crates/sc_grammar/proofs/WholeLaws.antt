@@ -9,9 +9,9 @@ use Rattle.sc_grammar.specs.declared.error.Refused.{Refused}
 use Rattle.sc_grammar.specs.declared.error.Refused.TheVariants.{Memory, Syntax, Deep}
 use Rattle.sc_grammar.specs.Items.{Item, objects, function}
 use Rattle.sc_grammar.specs.Sentence.{objects_in, functions_in, last_line}
-use Rattle.sc_grammar.specs.Reading.{Parser, Out, got, refused, Refusal, and_then, many_by, bind, pure, Fails, line_of_token}
-use Rattle.sc_grammar.specs.ReadingItems.{items}
-use Rattle.sc_grammar.specs.ReadingWhole.{Sorted, with_items, with_item, sorted, sorted_items, ReadSorted}
+use Rattle.sc_grammar.proofs.Reading.{Parser, Out, got, refused, Refusal, and_then, many_by, bind, pure, Fails, line_of_token}
+use Rattle.sc_grammar.proofs.ReadingItems.{items}
+use Rattle.sc_grammar.proofs.ReadingWhole.{Sorted, with_items, with_item, sorted, sorted_items, ReadSorted}
 use Rattle.sc_grammar.proofs.ManyLaws.{Collects, turn_more, turn_stop, turn_fail, turn_end}
 
 abbrev pub with_sorted : Sorted → Out (List Item) → Out Sorted

@@ -1,6 +1,6 @@
 use Rattle.std.proofs.Common.{ap, arith}
 use Rattle.std.proofs.lemmas.Result.{err_from_is_err_and}
-use Rattle.sc_grammar.specs.ReadingItems.{bound, one_summand, one_factor}
+use Rattle.sc_grammar.proofs.ReadingItems.{bound, one_summand, one_factor}
 use Rattle.sc_grammar.proofs.StepsLaws.{in_steps}
 use Rattle.sc_grammar.proofs.ManyLaws.{turn_refused}
 use Rattle.sc_parser.proofs.reader.Reader.+bound.Goals as goal

@@ -1,6 +1,6 @@
 use Rattle.std.proofs.Common.{ap, arith}
 use Rattle.std.proofs.lemmas.Result.{err_from_is_err_and}
-use Rattle.sc_grammar.specs.ReadingItems.{one_bound}
+use Rattle.sc_grammar.proofs.ReadingItems.{one_bound}
 use Rattle.sc_grammar.proofs.ManyLaws.{turn_refused, in_list}
 use Rattle.sc_parser.proofs.reader.Reader.bounds.Goals as goal
 
