@@ -6,8 +6,8 @@ use Rattle.sc_tree.specs.declared.token.Token.{Token}
 use Rattle.sc_tree.specs.PlainTree.{PlainTree}
 use Rattle.sc_grammar.specs.Rest.{Spelt, Rest, rest, tokens_of}
 use Rattle.sc_grammar.specs.Items.{Item, IsItems}
-use Rattle.sc_grammar.specs.Reading.{syntax, deep, Out, got, refused}
-use Rattle.sc_grammar.specs.ReadingItems.{items}
+use Rattle.sc_grammar.proofs.Reading.{syntax, deep, Out, got, refused}
+use Rattle.sc_grammar.proofs.ReadingItems.{items}
 use Rattle.sc_grammar.specs.Sentence.{tree_of, Spells, Sentence, AllShallow, FirstDeep, Agrees, Begins, Shallow, IsSyntax, IsTooDeep}
 use Rattle.sc_grammar.proofs.Local.{reach}
 use Rattle.sc_grammar.proofs.Fits.{Stand, past, Follows, Found, Begun, FitsOut}

@@ -9,7 +9,7 @@ use Rattle.sc_tree.specs.declared.token.Word.{Word as TheWord}
 use Rattle.sc_tree.specs.contracts.token.Word.{the_type as word_type}
 use Rattle.sc_tree.specs.contracts.token.MarkPartialEq.TheImpl.{ghosts as marks}
 use Rattle.sc_tree.specs.contracts.token.WordPartialEq.TheImpl.{ghosts as words}
-use Rattle.sc_grammar.specs.Reading.{is_mark, is_word}
+use Rattle.sc_grammar.proofs.Reading.{is_mark, is_word}
 
 mark-is : (m k : TheMark) → marks.eq m k ≡ true → m ≡ k
 mark-is m k h = same_true mark_type (search rules) m k h

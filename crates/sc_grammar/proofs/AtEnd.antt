@@ -4,8 +4,8 @@ use Rattle.std.specs.Prelude.{slice_get, ◌-◌}
 use Rattle.std.proofs.lemmas.Option.{slice_get_past}
 use Rattle.sc_tree.specs.declared.token.Token.{Token}
 use Rattle.sc_grammar.specs.Items.{Item}
-use Rattle.sc_grammar.specs.Reading.{Out, got, refused, Parser, and_then, bind, pure, next_is, sees, chosen, and_more, many_by, many}
-use Rattle.sc_grammar.specs.ReadingItems.{items, item, one_more_item, is_some_kind}
+use Rattle.sc_grammar.proofs.Reading.{Out, got, refused, Parser, and_then, bind, pure, next_is, sees, chosen, and_more, many_by, many}
+use Rattle.sc_grammar.proofs.ReadingItems.{items, item, one_more_item, is_some_kind}
 use Rattle.sc_grammar.proofs.Local.{Advances}
 
 -- where many end, there is no further one, or no token

@@ -13,9 +13,9 @@ use Rattle.sc_tree.specs.PlainStmt.{Statement, declare, Arm}
 use Rattle.sc_grammar.specs.Rest.{Rest, Takes, takes}
 use Rattle.sc_grammar.specs.Expressions.{IsAssign}
 use Rattle.sc_grammar.specs.Statements.{stands_before, is_else, IsStatement, block_statement, empty_statement, if_statement, if_else_statement, while_statement, do_statement, for_statement, for_mine_statement, return_statement, break_statement, continue_statement, simple_statement, split_statement, one_way_statement, IsArm, if_arm, IsBlock, braces, IsParts, no_more_parts, locals_part, statement_part}
-use Rattle.sc_grammar.specs.Reading.{Parser, ◌>>=◌, pure, if_taken, is_word, other_than, mark, many}
-use Rattle.sc_grammar.specs.ReadingExpressions.{begins_expression, begins_mark, begins_word}
-use Rattle.sc_grammar.specs.ReadingStatements.{begins_statement, begins_statement_mark, begins_statement_word, locals, one_part, block_after}
+use Rattle.sc_grammar.proofs.Reading.{Parser, ◌>>=◌, pure, if_taken, is_word, other_than, mark, many}
+use Rattle.sc_grammar.proofs.ReadingExpressions.{begins_expression, begins_mark, begins_word}
+use Rattle.sc_grammar.proofs.ReadingStatements.{begins_statement, begins_statement_mark, begins_statement_word, locals, one_part, block_after}
 use Rattle.sc_grammar.proofs.Local.{Local, Consumes, Advances, local-bind, local-pure, local-must, local-many, local-if_taken, advances-if_next, consumes-first, consumes-if_taken, consumes-must}
 use Rattle.sc_grammar.proofs.Fits.{Fits, fits-bind, fits-pure, fits-wider}
 use Rattle.sc_grammar.proofs.FitsTokens.{OneMore, fits-if_taken, fits-if_next, fits-mark, fits-many, was-word}

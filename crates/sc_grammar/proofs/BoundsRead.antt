@@ -14,9 +14,9 @@ use Rattle.sc_tree.specs.declared.token.Mark.TheVariants as marks
 use Rattle.sc_grammar.specs.Marks.{operator_of}
 use Rattle.sc_grammar.specs.Rest.{Spelt, Rest, rest, Takes, takes}
 use Rattle.sc_grammar.specs.Items.{IsBound, sum as is_sum, IsSummands, no_more_summands, one_more_summand, IsProduct, product as is_product, IsFactors, no_more_factors, one_more_factor, IsUnit, number_unit, procs_unit, parenthesized_unit}
-use Rattle.sc_grammar.specs.Reading.{Parser, many, is_given}
-use Rattle.sc_grammar.specs.ReadingExpressions.{arithmetic_in, at_level}
-use Rattle.sc_grammar.specs.ReadingItems.{begins_bound, steps_in, unit, one_factor, product, one_summand, sum, bound}
+use Rattle.sc_grammar.proofs.Reading.{Parser, many, is_given}
+use Rattle.sc_grammar.proofs.ReadingExpressions.{arithmetic_in, at_level}
+use Rattle.sc_grammar.proofs.ReadingItems.{begins_bound, steps_in, unit, one_factor, product, one_summand, sum, bound}
 use Rattle.sc_grammar.proofs.Local.{Local, Consumes, Advances, local-bind, local-pure, local-fail, local-if_taken, local-if_given, local-many, local-must, local-no_deeper, advances-none, advances-if_given, consumes-first, consumes-fail, consumes-if_taken, consumes-if_given, consumes-no_deeper}
 use Rattle.sc_grammar.proofs.Fits.{Rule, Quiet, past, Sample, Fits, fits-bind, fits-pure, fits-fail, fits-wider}
 use Rattle.sc_grammar.proofs.FitsTokens.{Gave, OneMore, Opens, spelt, sample-token, fits-if_taken, fits-if_given, fits-mark, fits-many, fits-no_deeper, was-mark, was-word}

@@ -10,8 +10,8 @@ use Rattle.sc_grammar.specs.declared.operators.Assigning.{Assigning}
 use Rattle.sc_grammar.specs.declared.position.Position.{Position}
 use Rattle.sc_grammar.specs.Rest.{Rest, Takes, number_of, line_of}
 use Rattle.sc_grammar.specs.Expressions.{IsAssign, no_assignment, assignment, IsCond, no_choice, choosing, IsBranch, IsLevel}
-use Rattle.sc_grammar.specs.Reading.{Parser, got, and_then, ◌>>=◌, bind, pure, here, of_token, taken, maybe, yes_if, is_given, takes_if, chosen, if_taken, given_or, if_given, is_mark}
-use Rattle.sc_grammar.specs.ReadingExpressions.{between, assigning_in, choice_after, cond_by, assign_by}
+use Rattle.sc_grammar.proofs.Reading.{Parser, got, and_then, ◌>>=◌, bind, pure, here, of_token, taken, maybe, yes_if, is_given, takes_if, chosen, if_taken, given_or, if_given, is_mark}
+use Rattle.sc_grammar.proofs.ReadingExpressions.{between, assigning_in, choice_after, cond_by, assign_by}
 use Rattle.sc_grammar.proofs.Local.{Local, Consumes, local-pure, local-here, local-bind, local-must, local-if_given, local-if_taken, local_moves, consumes-first, consumes-second}
 use Rattle.sc_grammar.proofs.Fits.{Rule, Fits, After, fits-bind, fits-pure, fits-wider}
 use Rattle.sc_grammar.proofs.FitsTokens.{Gave, Was, Matches, At, fits-if_given, fits-if_taken, fits-mark, fits-here, never_idle, was-mark}

@@ -16,8 +16,8 @@ use Rattle.sc_grammar.specs.Rest.{Rest, Takes, takes, line_of}
 use Rattle.sc_grammar.specs.Expressions.{IsStars}
 use Rattle.sc_grammar.specs.Statements.{int_with}
 use Rattle.sc_grammar.specs.Items.{procs_unit, IsBound, IsBounds, no_more_bounds, one_more_bound, IsDeclarator, ordinary, spread, IsMoreDeclarators, no_more_declarators, one_more_declarator as one_more}
-use Rattle.sc_grammar.specs.Reading.{bind, here, must, is_mark, many, name_in}
-use Rattle.sc_grammar.specs.ReadingItems.{bound, one_bound, shape_of, after_left, declarator_after, declarator, one_more_declarator}
+use Rattle.sc_grammar.proofs.Reading.{bind, here, must, is_mark, many, name_in}
+use Rattle.sc_grammar.proofs.ReadingItems.{bound, one_bound, shape_of, after_left, declarator_after, declarator, one_more_declarator}
 use Rattle.sc_grammar.proofs.Local.{Local, Consumes, Advances, local-bind, local-pure, local-here, local-if_taken, local-many, local-must, advances-none, advances-if_taken, consumes-first, consumes-second, consumes-must}
 use Rattle.sc_grammar.proofs.Fits.{Sample, Fits, After, fits-bind, fits-pure, fits-wider}
 use Rattle.sc_grammar.proofs.FitsTokens.{Was, OneMore, Matches, fits-if_taken, fits-here, never_idle, fits-must, fits-mark, fits-many, was-mark}

@@ -9,7 +9,7 @@ use Rattle.sc_tree.specs.declared.token.Word.{Word as TheWord}
 use Rattle.sc_grammar.specs.declared.position.Position.{Position}
 use Rattle.sc_grammar.specs.Rest.{Spelt, Rest, rest, number_of, line_of, Takes, takes, tokens_of}
 use Rattle.sc_grammar.specs.Statements.{stands_before}
-use Rattle.sc_grammar.specs.Reading.{deep, got, refused, Parser, and_then, bind, pure, position, here, of_token, taken, maybe, yes_if, takes_if, sees, next_is, must_be, must, too_deep, chosen, if_taken, if_next, given_or, if_given, many, mark, word, is_mark, is_word}
+use Rattle.sc_grammar.proofs.Reading.{deep, got, refused, Parser, and_then, bind, pure, position, here, of_token, taken, maybe, yes_if, takes_if, sees, next_is, must_be, must, too_deep, chosen, if_taken, if_next, given_or, if_given, many, mark, word, is_mark, is_word}
 use Rattle.sc_grammar.proofs.Local.{Advances, many-step}
 use Rattle.sc_grammar.proofs.Apart.{is_mark-same, is_word-same}
 

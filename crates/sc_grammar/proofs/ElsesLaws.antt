@@ -6,8 +6,8 @@ use Rattle.sc_tree.specs.Plain.{Expression}
 use Rattle.sc_grammar.proofs.ManyLaws.{more_left, none_left, map_push}
 use Rattle.sc_tree.specs.PlainStmt.{Statement, Arm}
 use Rattle.sc_tree.specs.declared.token.Word.TheVariants as words
-use Rattle.sc_grammar.specs.Reading.{Parser, Out, got, refused, Refusal, and_then, takes_word, bind, pure}
-use Rattle.sc_grammar.specs.ReadingStatements.{Elses, elses_by, arm_after, with_arm, if_with, if_of}
+use Rattle.sc_grammar.proofs.Reading.{Parser, Out, got, refused, Refusal, and_then, takes_word, bind, pure}
+use Rattle.sc_grammar.proofs.ReadingStatements.{Elses, elses_by, arm_after, with_arm, if_with, if_of}
 
 abbrev pub with_arms : List Arm → Out Elses → Out Elses
 with_arms front (got r m) = got (record { arms = front ++ r.arms; last = r.last }) m

@@ -12,8 +12,8 @@ use Rattle.sc_tree.specs.PlainStmt.{Statement, empty, Arm, arm}
 use Rattle.sc_grammar.specs.Rest.{Spelt, Rest, rest, Takes, takes}
 use Rattle.sc_grammar.specs.Expressions.{IsAssign}
 use Rattle.sc_grammar.specs.Statements.{stands_before, is_else, is_if, is_open, before_else, before_if, IsNearest, IsStatement, empty_statement, IsArm, if_arm, IsElseIfs, no_else_if, one_more_else_if}
-use Rattle.sc_grammar.specs.Reading.{syntax, deep, Out, got, refused, Parser, and_then, bind, ◌>>=◌, pure, fail, of_token, taken, maybe, yes_if, is_given, takes_if, sees, chosen, if_taken, is_word}
-use Rattle.sc_grammar.specs.ReadingStatements.{Elses, no_elses, with_arm, last_else, arm_after, elses_by, elses}
+use Rattle.sc_grammar.proofs.Reading.{syntax, deep, Out, got, refused, Parser, and_then, bind, ◌>>=◌, pure, fail, of_token, taken, maybe, yes_if, is_given, takes_if, sees, chosen, if_taken, is_word}
+use Rattle.sc_grammar.proofs.ReadingStatements.{Elses, no_elses, with_arm, last_else, arm_after, elses_by, elses}
 use Rattle.sc_grammar.proofs.Local.{Local, Consumes, local_moves, local-bind, local-pure, local-if_taken, consumes-first}
 use Rattle.sc_grammar.proofs.Fits.{Rule, Fits, FitsOut, Found, Sample, Begun, Stand, Quiet, Follows, past, begun_by, After, fits-bind, fits-pure, fits-fail}
 use Rattle.sc_grammar.proofs.FitsTokens.{Was, fits-if_taken, was-word, so_out}

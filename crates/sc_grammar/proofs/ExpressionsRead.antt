@@ -4,8 +4,8 @@ use Rattle.sc_tree.specs.declared.token.Token.{Token}
 use Rattle.sc_tree.specs.Plain.{Expression}
 use Rattle.sc_grammar.specs.Rest.{Rest}
 use Rattle.sc_grammar.specs.Expressions.{IsAssign, IsCond, IsBranch, branch, IsUnary}
-use Rattle.sc_grammar.specs.Reading.{Parser, no_deeper}
-use Rattle.sc_grammar.specs.ReadingExpressions.{begins_expression, cond_over, unary, assigned, branched, cond}
+use Rattle.sc_grammar.proofs.Reading.{Parser, no_deeper}
+use Rattle.sc_grammar.proofs.ReadingExpressions.{begins_expression, cond_over, unary, assigned, branched, cond}
 use Rattle.sc_grammar.proofs.Fits.{fits-wider}
 use Rattle.sc_grammar.proofs.Derived.{Stands, Reads}
 use Rattle.sc_grammar.proofs.Laws.{Exact, Without, extends_level, extends_cond, extends_assign, ExpressionEnds}

@@ -9,8 +9,8 @@ use Rattle.sc_grammar.specs.declared.operators.Operator.{Operator}
 use Rattle.sc_grammar.specs.declared.operators.Assigning.{Assigning}
 use Rattle.sc_grammar.specs.Marks.{operator_of, assigning_of}
 use Rattle.sc_grammar.specs.Rest.{Rest, rest}
-use Rattle.sc_grammar.specs.Reading.{is_given, is_mark}
-use Rattle.sc_grammar.specs.ReadingExpressions.{at_level, arithmetic_in, has_no_op, is_logical_at, is_logical, assigning_in}
+use Rattle.sc_grammar.proofs.Reading.{is_given, is_mark}
+use Rattle.sc_grammar.proofs.ReadingExpressions.{at_level, arithmetic_in, has_no_op, is_logical_at, is_logical, assigning_in}
 use Rattle.sc_grammar.proofs.Derived.{next_gives}
 use Rattle.sc_grammar.proofs.Laws.{Without, goes_on_mark, below_level, extends_level, is_question, extends_cond, extends_assign}
 

@@ -4,7 +4,7 @@ use Rattle.std.specs.Prelude.{slice_get}
 use Rattle.sc_tree.specs.declared.token.Token.{Token}
 use Rattle.sc_grammar.specs.Rest.{Spelt, Rest, rest}
 use Rattle.sc_grammar.specs.Statements.{begins_by, is_else}
-use Rattle.sc_grammar.specs.Reading.{syntax, deep, Out, got, refused, Parser, and_then, bind, pure, fail, sees}
+use Rattle.sc_grammar.proofs.Reading.{syntax, deep, Out, got, refused, Parser, and_then, bind, pure, fail, sees}
 
 -- ---- tokens in their places
 

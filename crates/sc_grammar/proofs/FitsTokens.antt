@@ -9,7 +9,7 @@ use Rattle.sc_tree.specs.declared.token.Word.{Word as TheWord}
 use Rattle.sc_grammar.specs.declared.position.Position.{Position}
 use Rattle.sc_grammar.specs.Rest.{Spelt, Rest, rest, number_of, line_of, Takes, takes}
 use Rattle.sc_grammar.specs.Statements.{is_else}
-use Rattle.sc_grammar.specs.Reading.{syntax, deep, Out, got, refused, Parser, and_then, bind, pure, fail, line_of_token, position, here, of_token, taken, maybe, yes_if, is_given, takes_if, sees, next_is, must_be, must, too_deep, chosen, if_taken, if_next, no_deeper, given_or, if_given, and_more, many_by, many, mark, word, is_mark, is_word}
+use Rattle.sc_grammar.proofs.Reading.{syntax, deep, Out, got, refused, Parser, and_then, bind, pure, fail, line_of_token, position, here, of_token, taken, maybe, yes_if, is_given, takes_if, sees, next_is, must_be, must, too_deep, chosen, if_taken, if_next, no_deeper, given_or, if_given, and_more, many_by, many, mark, word, is_mark, is_word}
 use Rattle.sc_grammar.proofs.Local.{Consumes}
 use Rattle.sc_grammar.proofs.Apart.{is_mark-is, is_mark-same, is_word-is, is_word-same}
 use Rattle.sc_grammar.proofs.Fits.{Rule, Stand, past, Quiet, Found, Sample, Begun, FitsOut, Fits, begun_by, After, fits-bind, fits-pure, fits-fail, fits-wider, sample_more, then_out}

@@ -4,8 +4,8 @@ use Rattle.sc_tree.specs.declared.token.Token.{Token}
 use Rattle.sc_tree.specs.declared.token.Mark.TheVariants as marks
 use Rattle.sc_tree.specs.Plain.{Expression}
 use Rattle.sc_tree.specs.PlainStmt.{Statement, for_}
-use Rattle.sc_grammar.specs.Reading.{Parser, Out, got, refused, and_then, bind, pure, mark}
-use Rattle.sc_grammar.specs.ReadingStatements.{for_after, for_parts, optional_until}
+use Rattle.sc_grammar.proofs.Reading.{Parser, Out, got, refused, and_then, bind, pure, mark}
+use Rattle.sc_grammar.proofs.ReadingStatements.{for_after, for_parts, optional_until}
 
 assoc : {A B C : Type 0} (o : Out A) (f : A → ℕ → Out B) (g : B → ℕ → Out C) → and_then (and_then o f) g ≡ and_then o (λ x m. and_then (f x m) g)
 assoc (got x m) f g = refl

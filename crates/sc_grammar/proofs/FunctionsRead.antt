@@ -15,10 +15,10 @@ use Rattle.sc_grammar.specs.Rest.{Rest, Takes, takes}
 use Rattle.sc_grammar.specs.Expressions.{IsStars, no_stars}
 use Rattle.sc_grammar.specs.Statements.{int_with, IsBlock, braces}
 use Rattle.sc_grammar.specs.Items.{IsResult, IsParam, nameless, with_name, IsMoreParams, no_more_params, one_more_param as one_more, IsParams, no_params, void_params, some_params, IsBody, prototype, definition, Item, function, IsItem, function_item}
-use Rattle.sc_grammar.specs.Reading.{Parser, bind, ◌>>=◌, pure, is_mark, is_word, mark, many, name_in}
-use Rattle.sc_grammar.specs.ReadingExpressions.{assigned}
-use Rattle.sc_grammar.specs.ReadingStatements.{block_after, statement}
-use Rattle.sc_grammar.specs.ReadingItems.{param, one_more_param, params, body, function_after, function_named}
+use Rattle.sc_grammar.proofs.Reading.{Parser, bind, ◌>>=◌, pure, is_mark, is_word, mark, many, name_in}
+use Rattle.sc_grammar.proofs.ReadingExpressions.{assigned}
+use Rattle.sc_grammar.proofs.ReadingStatements.{block_after, statement}
+use Rattle.sc_grammar.proofs.ReadingItems.{param, one_more_param, params, body, function_after, function_named}
 use Rattle.sc_grammar.proofs.Local.{Local, Consumes, Advances, local-bind, local-pure, local-here, local-if_taken, local-if_next, local-maybe, local-many, local-must, advances-none, advances-if_taken, consumes-first, consumes-second, consumes-must, consumes-if_taken}
 use Rattle.sc_grammar.proofs.Fits.{Sample, Fits, After, fits-bind, fits-pure, fits-wider}
 use Rattle.sc_grammar.proofs.FitsTokens.{Gave, OneMore, Matches, fits-if_taken, fits-if_next, fits-here, never_idle, fits-must, fits-mark, fits-word, fits-many, was-mark, was-word}

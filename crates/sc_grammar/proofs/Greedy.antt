@@ -5,7 +5,7 @@ use Rattle.sc_tree.specs.declared.token.Token.{Token}
 use Rattle.sc_tree.specs.declared.token.TokenKind.{TokenKind}
 use Rattle.sc_tree.specs.PlainStmt.{Statement}
 use Rattle.sc_grammar.specs.Statements.{is_else, is_open}
-use Rattle.sc_grammar.specs.Reading.{Out, got, refused, Parser, and_then, bind, ◌>>=◌, pure, fail, too_deep, sees, chosen, if_taken, no_deeper}
+use Rattle.sc_grammar.proofs.Reading.{Out, got, refused, Parser, and_then, bind, ◌>>=◌, pure, fail, too_deep, sees, chosen, if_taken, no_deeper}
 use Rattle.sc_grammar.proofs.Laws.{Greedy}
 
 greedy_then : {A : Type 0} (f : A → Parser Statement) → ((x : A) → Greedy (f x)) → (ts : List Token) (o : Out A) (s : Statement) (m : ℕ) → and_then o (λ x j. f x ts j) ≡ got s m → is_open s ≡ true → sees is_else (slice_get ts m) ≡ false

@@ -12,8 +12,8 @@ use Rattle.sc_grammar.specs.Rest.{Rest, rest, Takes, takes}
 use Rattle.sc_grammar.specs.Expressions.{IsStars}
 use Rattle.sc_grammar.specs.Statements.{begins_by, stands_before, int_with, IsBlock}
 use Rattle.sc_grammar.specs.Items.{no_more_bounds, ordinary, spread, IsMoreDeclarators, no_more_declarators, no_result, int_result, void_result, Item, objects, IsItem, objects_item, function_item, IsMoreItems, no_more_items, one_more_item as one_more, IsItems, all_items}
-use Rattle.sc_grammar.specs.Reading.{bind, pure, if_taken, is_mark, is_word, many, name_in}
-use Rattle.sc_grammar.specs.ReadingItems.{function_after, objects_after, after_int, void_type, item, one_more_item, items}
+use Rattle.sc_grammar.proofs.Reading.{bind, pure, if_taken, is_mark, is_word, many, name_in}
+use Rattle.sc_grammar.proofs.ReadingItems.{function_after, objects_after, after_int, void_type, item, one_more_item, items}
 use Rattle.sc_grammar.proofs.Local.{Local, Consumes, Advances, local-bind, local-pure, local-here, local-if_taken, local-many, local-must, advances-if_next, consumes-first, consumes-must, consumes-if_taken}
 use Rattle.sc_grammar.proofs.Fits.{Sample, Fits, After, fits-bind, fits-pure, fits-wider}
 use Rattle.sc_grammar.proofs.FitsTokens.{Was, OneMore, fits-if_taken, fits-if_next, fits-here, never_idle, fits-must, fits-mark, fits-many, was-mark, was-word, Matches}

@@ -13,7 +13,7 @@ use Rattle.sc_grammar.specs.Marks.{operator_of, assigning_of}
 use Rattle.sc_grammar.specs.Rest.{Rest, Takes, takes}
 use Rattle.sc_grammar.specs.Expressions.{IsUnary}
 use Rattle.sc_grammar.specs.Statements.{stands_before, is_open, before_else, is_else}
-use Rattle.sc_grammar.specs.Reading.{Parser, got, sees, is_given}
+use Rattle.sc_grammar.proofs.Reading.{Parser, got, sees, is_given}
 use Rattle.sc_grammar.proofs.Local.{Local, Consumes}
 use Rattle.sc_grammar.proofs.Fits.{Rule, Fits}
 use Rattle.sc_grammar.proofs.Derived.{Stands, Reads, Opened}

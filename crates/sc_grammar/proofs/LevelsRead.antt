@@ -11,8 +11,8 @@ use Rattle.sc_grammar.specs.declared.position.Position.{Position}
 use Rattle.sc_grammar.specs.Marks.{operator_of}
 use Rattle.sc_grammar.specs.Rest.{Rest, Takes, number_of, line_of}
 use Rattle.sc_grammar.specs.Expressions.{chained, listed, IsLevel, tightest, arithmetic, logic, IsLinks, no_more_links, one_more_link, IsOperands, no_more_operands, one_more_operand, IsUnary}
-use Rattle.sc_grammar.specs.Reading.{Parser, got, ◌>>=◌, pure, here, if_given, many}
-use Rattle.sc_grammar.specs.ReadingExpressions.{arithmetic_in, is_logical, one_link, one_operand, with_links, with_operands, joined, level_by}
+use Rattle.sc_grammar.proofs.Reading.{Parser, got, ◌>>=◌, pure, here, if_given, many}
+use Rattle.sc_grammar.proofs.ReadingExpressions.{arithmetic_in, is_logical, one_link, one_operand, with_links, with_operands, joined, level_by}
 use Rattle.sc_grammar.proofs.Local.{Local, Consumes, Advances, local-pure, local-here, local-bind, local-many, advances-none, advances-here, advances-if_given, advances-if_taken, consumes-first, consumes-second}
 use Rattle.sc_grammar.proofs.Fits.{Fits, After, fits-bind, fits-pure, fits-wider}
 use Rattle.sc_grammar.proofs.FitsTokens.{Gave, Was, Matches, At, OneMore, fits-if_given, fits-if_taken, fits-here, fits-many, never_idle}

@@ -1,3 +1,8 @@
+pub mod Reading
+pub mod ReadingExpressions
+pub mod ReadingStatements
+pub mod ReadingItems
+pub mod ReadingWhole
 pub mod Local
 pub mod Fits
 pub mod Apart

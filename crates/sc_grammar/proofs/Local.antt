@@ -5,7 +5,7 @@ use Rattle.std.specs.Prelude.{slice_get}
 use Rattle.sc_tree.specs.declared.token.Token.{Token}
 use Rattle.sc_tree.specs.declared.token.TokenKind.{TokenKind}
 use Rattle.sc_grammar.specs.declared.position.Position.{Position}
-use Rattle.sc_grammar.specs.Reading.{syntax, deep, Out, got, refused, Parser, and_then, bind, pure, fail, position, here, of_token, taken, maybe, yes_if, is_given, takes_if, sees, next_is, must_be, must, too_deep, chosen, if_taken, if_next, no_deeper, given_or, if_given, and_more, many_by, many}
+use Rattle.sc_grammar.proofs.Reading.{syntax, deep, Out, got, refused, Parser, and_then, bind, pure, fail, position, here, of_token, taken, maybe, yes_if, is_given, takes_if, sees, next_is, must_be, must, too_deep, chosen, if_taken, if_next, no_deeper, given_or, if_given, and_more, many_by, many}
 
 -- ---- locality
 

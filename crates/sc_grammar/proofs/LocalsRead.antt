@@ -11,9 +11,9 @@ use Rattle.sc_grammar.specs.declared.position.Position.{Position}
 use Rattle.sc_grammar.specs.Rest.{Rest, Takes, takes, number_of, line_of}
 use Rattle.sc_grammar.specs.Expressions.{IsStars, IsAssign}
 use Rattle.sc_grammar.specs.Statements.{int_with, IsInitial, no_initial, some_initial, IsLocal, local_name, IsMoreLocals, no_more_locals, one_more_local, IsOptional, left_out, given}
-use Rattle.sc_grammar.specs.Reading.{Parser, is_mark, many, name_in}
-use Rattle.sc_grammar.specs.ReadingExpressions.{begins_expression}
-use Rattle.sc_grammar.specs.ReadingStatements.{initial, local, one_more_local as another_local, locals, optional_before, test}
+use Rattle.sc_grammar.proofs.Reading.{Parser, is_mark, many, name_in}
+use Rattle.sc_grammar.proofs.ReadingExpressions.{begins_expression}
+use Rattle.sc_grammar.proofs.ReadingStatements.{initial, local, one_more_local as another_local, locals, optional_before, test}
 use Rattle.sc_grammar.proofs.Local.{Local, Consumes, Advances, local-bind, local-here, local-pure, local-must, local-many, local-if_taken, local-if_next, advances-none, advances-if_taken, consumes-first, consumes-second, consumes-must}
 use Rattle.sc_grammar.proofs.Fits.{Fits, Sample, After, fits-bind, fits-pure}
 use Rattle.sc_grammar.proofs.FitsTokens.{Matches, OneMore, fits-here, never_idle, fits-must, fits-if_taken, fits-if_next, fits-mark, fits-many, was-mark}

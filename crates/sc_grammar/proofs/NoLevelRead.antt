@@ -13,8 +13,8 @@ use Rattle.sc_grammar.specs.Marks.{prefix_of, prefixed}
 use Rattle.sc_grammar.specs.Rest.{Spelt, Rest, rest, takes}
 use Rattle.sc_grammar.specs.Expressions.{placed, around, IsAssign, no_assignment, IsCond, no_choice, IsBranch, branch, IsLevel, tightest, IsUnary, prefix_operator, no_prefix, no_more_tails, numeral, null_word, my_proc_word, procs_word, size_of_int, named, parenthesized}
 use Rattle.sc_grammar.specs.Statements.{is_else}
-use Rattle.sc_grammar.specs.Reading.{fail, no_deeper, is_given}
-use Rattle.sc_grammar.specs.ReadingExpressions.{begins_expression, begins_mark, begins_word}
+use Rattle.sc_grammar.proofs.Reading.{fail, no_deeper, is_given}
+use Rattle.sc_grammar.proofs.ReadingExpressions.{begins_expression, begins_mark, begins_word}
 use Rattle.sc_grammar.proofs.Local.{local-no_deeper, consumes-no_deeper}
 use Rattle.sc_grammar.proofs.Fits.{Rule, past, Quiet, Sample}
 use Rattle.sc_grammar.proofs.FitsTokens.{spelt, Opens, fits-no_deeper}

@@ -13,9 +13,9 @@ use Rattle.sc_grammar.specs.declared.position.Position.{Position}
 use Rattle.sc_grammar.specs.Rest.{Spelt, Rest, rest, Takes, takes}
 use Rattle.sc_grammar.specs.Expressions.{IsAssign}
 use Rattle.sc_grammar.specs.Statements.{is_else, left_out, IsStatement, block_statement, empty_statement, if_statement, for_statement, for_mine_statement, return_statement, break_statement, continue_statement, simple_statement, if_arm, no_else_if, braces, no_more_parts}
-use Rattle.sc_grammar.specs.Reading.{is_mark, is_word, no_deeper}
-use Rattle.sc_grammar.specs.ReadingExpressions.{begins_expression}
-use Rattle.sc_grammar.specs.ReadingStatements.{begins_statement}
+use Rattle.sc_grammar.proofs.Reading.{is_mark, is_word, no_deeper}
+use Rattle.sc_grammar.proofs.ReadingExpressions.{begins_expression}
+use Rattle.sc_grammar.proofs.ReadingStatements.{begins_statement}
 use Rattle.sc_grammar.proofs.Local.{local-no_deeper, consumes-no_deeper}
 use Rattle.sc_grammar.proofs.Fits.{Rule, Fits, Sample, After, Quiet, past, sample_more}
 use Rattle.sc_grammar.proofs.FitsTokens.{Was, TakesMark, TakesWord, At, Opens, spelt, sample-token, sample-then, fits-no_deeper, was-mark, was-word}

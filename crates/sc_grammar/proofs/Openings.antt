@@ -8,8 +8,8 @@ use Rattle.sc_grammar.specs.declared.operators.Prefix.{Prefix}
 use Rattle.sc_grammar.specs.Marks.{prefix_of}
 use Rattle.sc_grammar.specs.Rest.{Rest, Takes, takes}
 use Rattle.sc_grammar.specs.Expressions.{IsAssign, no_assignment, assignment, IsCond, no_choice, choosing, IsBranch, branch, IsLevel, tightest, arithmetic, logic, IsUnary, prefix_operator, casting, no_prefix, IsPrimary, numeral, null_word, my_proc_word, procs_word, size_of_int, named, called, parenthesized}
-use Rattle.sc_grammar.specs.Reading.{is_given}
-use Rattle.sc_grammar.specs.ReadingExpressions.{begins_expression, begins_mark}
+use Rattle.sc_grammar.proofs.Reading.{is_given}
+use Rattle.sc_grammar.proofs.ReadingExpressions.{begins_expression, begins_mark}
 use Rattle.sc_grammar.proofs.Derived.{Opened, opened}
 
 pub opened_token : {k : TokenKind → Bool} {kind : TokenKind} {d e : ℕ} {a b : Rest} → Takes kind e a b → k kind ≡ true → d ≤ e → Opened k d a

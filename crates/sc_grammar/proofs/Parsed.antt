@@ -5,9 +5,9 @@ use Rattle.sc_tree.specs.declared.token.Token.{Token}
 use Rattle.sc_tree.specs.PlainTree.{PlainTree}
 use Rattle.sc_grammar.specs.Rest.{Spelt, tokens_of}
 use Rattle.sc_grammar.specs.Items.{Item}
-use Rattle.sc_grammar.specs.Reading.{syntax, deep, Out, got, refused, Fails}
-use Rattle.sc_grammar.specs.ReadingItems.{items}
-use Rattle.sc_grammar.specs.ReadingWhole.{ReadTree}
+use Rattle.sc_grammar.proofs.Reading.{syntax, deep, Out, got, refused, Fails}
+use Rattle.sc_grammar.proofs.ReadingItems.{items}
+use Rattle.sc_grammar.proofs.ReadingWhole.{ReadTree}
 use Rattle.sc_grammar.specs.Sentence.{tree_of, Spells, Sentence, AllShallow, Shallow, IsSyntax, IsTooDeep}
 use Rattle.sc_grammar.specs.declared.error.Refused.{Refused}
 use Rattle.sc_grammar.specs.declared.error.Refused.TheVariants.{Memory, Syntax, Deep}

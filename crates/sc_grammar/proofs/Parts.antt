@@ -7,7 +7,7 @@ use Rattle.sc_tree.specs.declared.token.TokenKind.{TokenKind}
 use Rattle.sc_tree.specs.declared.token.TokenKind.TheVariants.{Mark}
 use Rattle.sc_tree.specs.declared.token.Mark.TheVariants as marks
 use Rattle.sc_grammar.specs.Rest.{Spelt, Rest, Takes}
-use Rattle.sc_grammar.specs.Reading.{Parser, Out, got, refused, and_then, bind, pure, maybe, of_token, taken, given_or, if_given}
+use Rattle.sc_grammar.proofs.Reading.{Parser, Out, got, refused, and_then, bind, pure, maybe, of_token, taken, given_or, if_given}
 use Rattle.sc_grammar.proofs.Fits.{Rule, Fits, fits-pure}
 use Rattle.sc_grammar.proofs.FitsTokens.{spelt, Gave, OneMore, fits-if_given}
 

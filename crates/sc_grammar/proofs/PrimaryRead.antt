@@ -10,8 +10,8 @@ use Rattle.sc_tree.specs.View.{expressions_of}
 use Rattle.sc_grammar.specs.declared.position.Position.{Position}
 use Rattle.sc_grammar.specs.Rest.{Rest, Takes, takes, number_of, line_of}
 use Rattle.sc_grammar.specs.Expressions.{placed, IsAssign, IsPrimary, numeral, null_word, my_proc_word, procs_word, size_of_int, named, called, parenthesized, IsArguments, no_arguments, some_arguments, IsMoreArguments, no_more_arguments, one_more_argument, IsArgument, value_argument, format_argument}
-use Rattle.sc_grammar.specs.Reading.{Parser, is_mark, is_word, many, name_in}
-use Rattle.sc_grammar.specs.ReadingExpressions.{begins_expression, number_in, format_in, placed_at, argument, one_more_argument as another_argument, arguments, after_name, size_of, by_word, plain_primary}
+use Rattle.sc_grammar.proofs.Reading.{Parser, is_mark, is_word, many, name_in}
+use Rattle.sc_grammar.proofs.ReadingExpressions.{begins_expression, number_in, format_in, placed_at, argument, one_more_argument as another_argument, arguments, after_name, size_of, by_word, plain_primary}
 use Rattle.sc_grammar.proofs.Local.{Local, Consumes, Advances, local-bind, local-here, local-pure, local-fail, local-must, local-many, local-if_taken, local-if_given, local-if_next, advances-none, advances-if_taken, consumes-fail, consumes-second, consumes-if_taken, consumes-if_given}
 use Rattle.sc_grammar.proofs.Fits.{Rule, Fits, Sample, After, fits-bind, fits-pure, fits-fail, fits-wider}
 use Rattle.sc_grammar.proofs.FitsTokens.{Gave, Was, Matches, At, OneMore, fits-here, never_idle, fits-if_given, fits-if_taken, fits-if_next, fits-mark, fits-word, fits-many, sample-token, was-mark, was-word}

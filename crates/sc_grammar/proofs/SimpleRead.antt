@@ -12,9 +12,9 @@ use Rattle.sc_grammar.specs.declared.position.Position.{Position}
 use Rattle.sc_grammar.specs.Rest.{Rest, Takes, takes, number_of, line_of}
 use Rattle.sc_grammar.specs.Expressions.{IsAssign}
 use Rattle.sc_grammar.specs.Statements.{IsOptional, IsStatement, return_statement, break_statement, continue_statement, simple_statement, split_statement, one_way_statement}
-use Rattle.sc_grammar.specs.Reading.{Parser, pure, fail, if_taken, is_mark, is_word}
-use Rattle.sc_grammar.specs.ReadingExpressions.{begins_expression}
-use Rattle.sc_grammar.specs.ReadingStatements.{split_after, by_expression, return_after, by_other_word}
+use Rattle.sc_grammar.proofs.Reading.{Parser, pure, fail, if_taken, is_mark, is_word}
+use Rattle.sc_grammar.proofs.ReadingExpressions.{begins_expression}
+use Rattle.sc_grammar.proofs.ReadingStatements.{split_after, by_expression, return_after, by_other_word}
 use Rattle.sc_grammar.proofs.Local.{Local, Consumes, local-bind, local-here, local-pure, local-fail, local-must, local-if_taken, consumes-first, consumes-if_taken, consumes-fail}
 use Rattle.sc_grammar.proofs.Fits.{Rule, Fits, Sample, After, fits-bind, fits-pure, fits-fail, fits-wider}
 use Rattle.sc_grammar.proofs.FitsTokens.{Was, At, fits-here, never_idle, fits-if_taken, fits-mark, was-mark, was-word}

@@ -3,9 +3,9 @@ use Rattle.std.proofs.Common.{◌≡◌, refl, ℕ, ◌+◌, List, length, ◌�
 use Rattle.sc_tree.specs.declared.token.Token.{Token}
 use Rattle.sc_tree.specs.PlainTree.{PlainTree}
 use Rattle.sc_grammar.specs.Items.{Item}
-use Rattle.sc_grammar.specs.Reading.{syntax, deep, Out, got, refused}
-use Rattle.sc_grammar.specs.ReadingItems.{items}
-use Rattle.sc_grammar.specs.ReadingWhole.{ReadTree}
+use Rattle.sc_grammar.proofs.Reading.{syntax, deep, Out, got, refused}
+use Rattle.sc_grammar.proofs.ReadingItems.{items}
+use Rattle.sc_grammar.proofs.ReadingWhole.{ReadTree}
 use Rattle.sc_grammar.specs.Sentence.{tree_of, Sentence, Shallow, IsSyntax, IsTooDeep}
 use Rattle.sc_grammar.proofs.Parsed.{read-sentence, read-shallow, fails-syntax, fails-deep}
 

@@ -2,7 +2,7 @@
 use Rattle.std.proofs.Common.{ℕ, arith}
 use Rattle.sc_grammar.specs.Statements.{IsBlock}
 use Rattle.sc_grammar.specs.Items.{IsItems}
-use Rattle.sc_grammar.specs.ReadingItems.{items, one_more_item}
+use Rattle.sc_grammar.proofs.ReadingItems.{items, one_more_item}
 use Rattle.sc_grammar.proofs.Local.{Advances}
 use Rattle.sc_grammar.proofs.Laws.{Exact}
 use Rattle.sc_grammar.proofs.Answer.{AtEnd}

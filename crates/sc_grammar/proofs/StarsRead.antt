@@ -9,8 +9,8 @@ use Rattle.sc_tree.specs.declared.token.Word.TheVariants as words
 use Rattle.sc_tree.specs.declared.token.Mark.TheVariants as marks
 use Rattle.sc_grammar.specs.Rest.{Rest, rest, Takes}
 use Rattle.sc_grammar.specs.Expressions.{IsStars, no_stars, local_star, global_star, spread_star}
-use Rattle.sc_grammar.specs.Reading.{is_mark, is_word}
-use Rattle.sc_grammar.specs.ReadingExpressions.{star_kind, one_star, stars}
+use Rattle.sc_grammar.proofs.Reading.{is_mark, is_word}
+use Rattle.sc_grammar.proofs.ReadingExpressions.{star_kind, one_star, stars}
 use Rattle.sc_grammar.proofs.Local.{Local, Advances, local-pure, local-if_taken, local-many, advances-none, advances-if_taken}
 use Rattle.sc_grammar.proofs.Fits.{Fits, fits-pure}
 use Rattle.sc_grammar.proofs.FitsTokens.{OneMore, fits-if_taken, fits-many, was-mark, was-word}

@@ -3,9 +3,9 @@ use Rattle.std.proofs.Common.{◌+◌, ◌≡◌, subst, ℕ, zero, suc, arith}
 use Rattle.sc_tree.specs.declared.token.Mark.TheVariants as marks
 use Rattle.sc_grammar.specs.Expressions.{IsAssign}
 use Rattle.sc_grammar.specs.Statements.{IsStatement, IsBlock}
-use Rattle.sc_grammar.specs.Reading.{◌>>=◌, mark}
-use Rattle.sc_grammar.specs.ReadingExpressions.{begins_expression, assigned}
-use Rattle.sc_grammar.specs.ReadingStatements.{begins_statement, block_after, statement}
+use Rattle.sc_grammar.proofs.Reading.{◌>>=◌, mark}
+use Rattle.sc_grammar.proofs.ReadingExpressions.{begins_expression, assigned}
+use Rattle.sc_grammar.proofs.ReadingStatements.{begins_statement, block_after, statement}
 use Rattle.sc_grammar.proofs.FitsTokens.{Opens}
 use Rattle.sc_grammar.proofs.Laws.{Exact, ExpressionEnds, StatementEnds, Greedy, extends_assign}
 use Rattle.sc_grammar.proofs.Greedy.{greedy-no_deeper}

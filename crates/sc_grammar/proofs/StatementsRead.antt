@@ -12,9 +12,9 @@ use Rattle.sc_grammar.specs.declared.position.Position.{Position}
 use Rattle.sc_grammar.specs.Rest.{Rest, Takes}
 use Rattle.sc_grammar.specs.Expressions.{IsAssign}
 use Rattle.sc_grammar.specs.Statements.{is_else, is_open, IsStatement, block_statement, empty_statement, if_statement, if_else_statement, while_statement, do_statement, for_statement, for_mine_statement, return_statement, break_statement, continue_statement, simple_statement, split_statement, one_way_statement, IsArm, if_arm, braces}
-use Rattle.sc_grammar.specs.Reading.{Out, got, refused, Parser, and_then, bind, ◌>>=◌, pure, sees, if_taken, is_mark, is_word}
-use Rattle.sc_grammar.specs.ReadingExpressions.{begins_expression}
-use Rattle.sc_grammar.specs.ReadingStatements.{Elses, if_with, if_of, block_after, elses, if_after, by_loop_word, by_expression, statement_by}
+use Rattle.sc_grammar.proofs.Reading.{Out, got, refused, Parser, and_then, bind, ◌>>=◌, pure, sees, if_taken, is_mark, is_word}
+use Rattle.sc_grammar.proofs.ReadingExpressions.{begins_expression}
+use Rattle.sc_grammar.proofs.ReadingStatements.{Elses, if_with, if_of, block_after, elses, if_after, by_loop_word, by_expression, statement_by}
 use Rattle.sc_grammar.proofs.Local.{Local, Consumes, local-bind, local-here, local-pure, local-if_taken, consumes-second, consumes-if_taken}
 use Rattle.sc_grammar.proofs.Fits.{Fits, fits-bind, fits-pure}
 use Rattle.sc_grammar.proofs.FitsTokens.{sample-token, fits-here, never_idle, fits-if_taken, was-mark, was-word}

@@ -10,8 +10,8 @@ use Rattle.sc_tree.specs.View.{tails_of}
 use Rattle.sc_grammar.specs.declared.position.Position.{Position}
 use Rattle.sc_grammar.specs.Rest.{Rest, rest, Takes, number_of, line_of}
 use Rattle.sc_grammar.specs.Expressions.{tailed, IsAssign, IsUnary, no_prefix, IsPrimary, IsTails, no_more_tails, index_tail, up_tail, down_tail}
-use Rattle.sc_grammar.specs.Reading.{Parser, got, pure, if_taken, is_mark, many}
-use Rattle.sc_grammar.specs.ReadingExpressions.{index_after, one_tail, with_tails}
+use Rattle.sc_grammar.proofs.Reading.{Parser, got, pure, if_taken, is_mark, many}
+use Rattle.sc_grammar.proofs.ReadingExpressions.{index_after, one_tail, with_tails}
 use Rattle.sc_grammar.proofs.Local.{Local, Advances, local-bind, local-pure, local-must, local-many, advances-none, advances-if_taken, advances-here}
 use Rattle.sc_grammar.proofs.Fits.{Fits, After, fits-bind, fits-pure}
 use Rattle.sc_grammar.proofs.FitsTokens.{Was, At, OneMore, fits-here, fits-if_taken, fits-mark, fits-many, was-mark}

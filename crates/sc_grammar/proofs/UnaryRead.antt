@@ -14,8 +14,8 @@ use Rattle.sc_grammar.specs.declared.position.Position.{Position}
 use Rattle.sc_grammar.specs.Marks.{prefix_of, prefixed}
 use Rattle.sc_grammar.specs.Rest.{Spelt, Rest, rest, Takes, takes, number_of, line_of}
 use Rattle.sc_grammar.specs.Expressions.{placed, around, tailed, IsStars, no_stars, IsAssign, IsUnary, prefix_operator, casting, no_prefix, IsPrimary, numeral, null_word, my_proc_word, procs_word, size_of_int, named, called, parenthesized, IsTails, no_more_tails}
-use Rattle.sc_grammar.specs.Reading.{Parser, is_mark, is_word, is_given, if_taken}
-use Rattle.sc_grammar.specs.ReadingExpressions.{begins_expression, prefix_in, is_prefix, placed_at, prefix_after, if_prefix, cast_after, if_cast, parenthesis_after, no_prefix as unprefixed, unary_by}
+use Rattle.sc_grammar.proofs.Reading.{Parser, is_mark, is_word, is_given, if_taken}
+use Rattle.sc_grammar.proofs.ReadingExpressions.{begins_expression, prefix_in, is_prefix, placed_at, prefix_after, if_prefix, cast_after, if_cast, parenthesis_after, no_prefix as unprefixed, unary_by}
 use Rattle.sc_grammar.proofs.Local.{Local, Consumes, local-bind, local-here, local-pure, local-must, local-too_deep, local-if_taken, local-if_given, local-if_next, consumes-first, consumes-second, consumes-too_deep, consumes-if_taken, consumes-if_given, consumes-if_next}
 use Rattle.sc_grammar.proofs.Fits.{Fits, Sample, past, After, fits-bind, fits-pure, fits-wider}
 use Rattle.sc_grammar.proofs.FitsTokens.{Gave, Was, At, Opens, spelt, fits-here, never_idle, fits-if_given, fits-if_taken, fits-if_too_deep, fits-mark, was-mark, was-word}

@@ -1,5 +1,5 @@
 -- What is read of a whole source.
-use Rattle.std.proofs.Common.{◌≡◌, refl, ap, sym, ◌∙◌, ℕ, zero, suc, ◌+◌, ◌-◌, ◌<◌, ◌≤◌, List, [], ◌∷◌, ◌++◌, append_assoc, length, Option, Some, None, arith}
+use Rattle.std.proofs.Common.{◌≡◌, refl, ap, sym, ◌∙◌, ℕ, ◌+◌, ◌-◌, ◌<◌, ◌≤◌, List, [], ◌∷◌, ◌++◌, append_assoc, length, Option, Some, None, arith}
 use Rattle.std.proofs.lemmas.List.{append-nil}
 use Rattle.std.specs.Prelude.{slice_get}
 use Rattle.sc_tree.specs.declared.token.Token.{Token}
@@ -9,10 +9,10 @@ use Rattle.sc_grammar.specs.declared.error.Refused.{Refused}
 use Rattle.sc_grammar.specs.declared.error.Refused.TheVariants.{Memory, Syntax, Deep}
 use Rattle.sc_grammar.specs.Items.{Item, objects, function}
 use Rattle.sc_grammar.specs.Sentence.{objects_in, functions_in, last_line}
-use Rattle.sc_grammar.specs.Reading.{Parser, Out, got, refused, Refusal, and_then, many_by, bind, pure, Fails, line_of_token}
-use Rattle.sc_grammar.specs.ReadingItems.{items}
-use Rattle.sc_grammar.specs.ReadingWhole.{Sorted, with_items, with_item, sorted, sorted_items, ReadSorted}
-use Rattle.sc_grammar.proofs.ManyLaws.{more_left, none_left}
+use Rattle.sc_grammar.proofs.Reading.{Parser, Out, got, refused, Refusal, and_then, many_by, bind, pure, Fails, line_of_token}
+use Rattle.sc_grammar.proofs.ReadingItems.{items}
+use Rattle.sc_grammar.proofs.ReadingWhole.{Sorted, with_items, with_item, sorted, sorted_items, ReadSorted}
+use Rattle.sc_grammar.proofs.ManyLaws.{Collects, turn_more, turn_stop, turn_fail, turn_end}
 
 abbrev pub with_sorted : Sorted → Out (List Item) → Out Sorted
 with_sorted s (got all m) = got (with_items s all) m
@@ -32,34 +32,21 @@ sorted_step s x (refused r) = refl
 with_none : (s : Sorted) (m : ℕ) → got (with_items s []) m ≡ got s m
 with_none s m = both _ _ _ _ m (append-nil s.objects) (append-nil s.functions)
 
+in_sorted : Collects with_item with_sorted
+in_sorted = record { one = sorted_step; nothing = with_none; refusal = λ s r. refl }
+
 module _ (s : Sorted) (p : Parser (Option Item)) (ts : List Token) where
-  sorted_end : (n : ℕ) → with_sorted s (many_by p zero ts n) ≡ got s n
-  unfolding many_by pure
-  sorted_end n = with_none s n
-
-  sorted_more : (k n m : ℕ) (x : Item) → p ts n ≡ got (Some x) m → with_sorted s (many_by p (suc k) ts n) ≡ with_sorted (with_item s x) (many_by p k ts m)
-  unfolding many_by bind pure
-  sorted_more k n m x e = rw e (sorted_step s x (many_by p k ts m))
-
-  sorted_stop : (k n m : ℕ) → p ts n ≡ got None m → with_sorted s (many_by p (suc k) ts n) ≡ got s m
-  unfolding many_by bind pure
-  sorted_stop k n m e = rw e (with_none s m)
-
-  sorted_fail : (k n : ℕ) (r : Refusal) → p ts n ≡ refused r → with_sorted s (many_by p (suc k) ts n) ≡ refused r
-  unfolding many_by bind pure
-  sorted_fail k n r e = rw e refl
-
   pub items_more : (i end n m : ℕ) (x : Item) → i < end → p ts n ≡ got (Some x) m → with_sorted s (many_by p (end - i) ts n) ≡ with_sorted (with_item s x) (many_by p (end - (i + 1)) ts m)
-  items_more i end n m x h e = ap (λ k. with_sorted s (many_by p k ts n)) (more_left i end h) ∙ sorted_more (end - (i + 1)) n m x e
+  items_more i end n m x h e = turn_more in_sorted s p i end ts n m x h e
 
   pub items_stop : (i end n m : ℕ) → i < end → p ts n ≡ got None m → with_sorted s (many_by p (end - i) ts n) ≡ got s m
-  items_stop i end n m h e = ap (λ k. with_sorted s (many_by p k ts n)) (more_left i end h) ∙ sorted_stop (end - (i + 1)) n m e
+  items_stop i end n m h e = turn_stop in_sorted s p i end ts n m h e
 
   pub items_fail : (i end n : ℕ) (r : Refusal) → i < end → p ts n ≡ refused r → with_sorted s (many_by p (end - i) ts n) ≡ refused r
-  items_fail i end n r h e = ap (λ k. with_sorted s (many_by p k ts n)) (more_left i end h) ∙ sorted_fail (end - (i + 1)) n r e
+  items_fail i end n r h e = turn_fail in_sorted s p i end ts n r h e
 
   pub items_end : (i end n : ℕ) → end ≤ i → with_sorted s (many_by p (end - i) ts n) ≡ got s n
-  items_end i end n h = ap (λ k. with_sorted s (many_by p k ts n)) (none_left i end h) ∙ sorted_end n
+  items_end i end n h = turn_end in_sorted s p i end ts n h
 
 -- what was found so far, and one item more
 pub items_found : (s t : Sorted) (p : Parser (Option Item)) (i end : ℕ) (us ts : List Token) (n m : ℕ) (x : Item) (o : Out Sorted) → us ≡ ts → o ≡ with_sorted s (many_by p (end - i) ts n) → i < end → p us n ≡ got (Some x) m → t ≡ with_item s x → o ≡ with_sorted t (many_by p (end - (i + 1)) ts m)

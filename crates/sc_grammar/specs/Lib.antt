@@ -4,8 +4,3 @@ pub mod Expressions
 pub mod Statements
 pub mod Items
 pub mod Sentence
-pub mod Reading
-pub mod ReadingExpressions
-pub mod ReadingStatements
-pub mod ReadingItems
-pub mod ReadingWhole

@@ -5,10 +5,10 @@ ghost use Rattle.std.specs.Option.{option_map};
 ghost use Rattle.std.specs.Result.{OnOk};
 ghost use Rattle.sc_tree.specs.PlainTyped.{link};
 ghost use Rattle.sc_tree.specs.ViewTyped.{plain_typed, plain_typed_link};
-ghost use Rattle.sc_typing.specs.Known as facts;
 ghost use Rattle.sc_typing.specs.Operators as operators;
 ghost use Rattle.sc_typing.specs.Chains as chains;
 ghost use Rattle.sc_typing.specs.Rules as kept;
+ghost use Rattle.sc_typing.specs.Types as types;
 ghost use Rattle.sc_typing.proofs.ExpressionNotes as notes_of;
 ghost use Rattle.sc_typing.specs.Typing as typing;
 ghost use Rattle.sc_typing.specs.ViewKnown.{seen, seen_judged};
@@ -164,7 +164,7 @@ fn with_link(
     at: u32,
     line: u32,
 ) -> Result<Linked, AllocError>
-    ensures { IfOk result (λ made. seen_linked made ≡ chains.with_link (chains.level_of op) (seen_linked chain) op at line (seen known)) }
+    ensures { IfOk result (λ made. seen_linked made ≡ chains.with_link (chains.row_of op) (seen_linked chain) op at line (seen known)) }
 {
     match level_of(op) {
         Level::Sums => pushed(chain, op, known.e, at, line),
@@ -180,7 +180,7 @@ fn pushed(
     at: u32,
     line: u32,
 ) -> Result<Linked, AllocError>
-    ensures { IfOk result (λ made. seen_linked made ≡ chains.pushed (seen_linked chain) op (plain_typed expression) at line) }
+    ensures { IfOk result (λ made. seen_linked made ≡ chains.pushed (record { left = seen_linked chain; right = plain_typed expression }) op chain.ty at line) }
 {
     let mut rest = chain.rest;
     push_link(&mut rest, op, expression, at, line)?;
@@ -200,7 +200,7 @@ fn pushed_int(
     at: u32,
     line: u32,
 ) -> Result<Linked, AllocError>
-    ensures { IfOk result (λ made. seen_linked made ≡ chains.pushed_int (seen_linked chain) op (plain_typed expression) at line) }
+    ensures { IfOk result (λ made. seen_linked made ≡ chains.pushed (record { left = seen_linked chain; right = plain_typed expression }) op types.int at line) }
 {
     let mut rest = chain.rest;
     push_link(&mut rest, op, expression, at, line)?;
@@ -239,7 +239,7 @@ fn equality(
     at: u32,
     line: u32,
 ) -> Result<Linked, AllocError>
-    ensures { IfOk result (λ made. seen_linked made ≡ chains.equality (seen_linked chain) op at line (seen known) (facts.common chain.ty chain.is_null known.ty)) }
+    ensures { IfOk result (λ made. seen_linked made ≡ chains.pushed (chains.of_one_type (seen_linked chain) (seen known)) op types.int at line) }
 {
     let ty = common(alloc, &chain.ty, chain.is_null, &known.ty)?;
     let chain = with_first(alloc, chain, &ty)?;

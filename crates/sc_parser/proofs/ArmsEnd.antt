@@ -7,8 +7,8 @@ use Rattle.sc_tree.specs.declared.stmt.Stmt.TheVariants as stmt
 use Rattle.sc_tree.specs.declared.token.Word.TheVariants as words
 use Rattle.sc_tree.specs.ViewStmt.{plain_stmt, plain_arm}
 use Rattle.sc_tree.proofs.ViewStmtLaws.{stmt-choose}
-use Rattle.sc_grammar.specs.Reading.{Parser, got, takes_word}
-use Rattle.sc_grammar.specs.ReadingStatements.{if_after, elses_by}
+use Rattle.sc_grammar.proofs.Reading.{Parser, got, takes_word}
+use Rattle.sc_grammar.proofs.ReadingStatements.{if_after, elses_by}
 use Rattle.sc_grammar.proofs.ElsesLaws.{with_arms, if_all, elses_end, elses_stop}
 use Rattle.sc_parser.specs.declared.reader.Reader.{Reader}
 use Rattle.sc_parser.specs.Returned.{Moves}

@@ -7,7 +7,7 @@ use Rattle.sc_parser.specs.declared.reader.Reader.{Reader}
 use Rattle.sc_grammar.specs.declared.position.Position.{Position}
 use Rattle.sc_grammar.specs.declared.error.Refused.{Refused}
 use Rattle.sc_grammar.specs.declared.error.Refused.TheVariants.{Memory, Syntax, Deep}
-use Rattle.sc_grammar.specs.Reading.{Parser, Out, got, and_then, bind, pure, here, position, next_is, sees, fail, Fails}
+use Rattle.sc_grammar.proofs.Reading.{Parser, Out, got, and_then, bind, pure, here, position, next_is, sees, fail, Fails}
 use Rattle.sc_parser.specs.Returned.{Moves, Gives}
 
 pub then_moves : {A B : Type 0} {x : A} {old mid : Reader} {p : Parser A} (f : A → Parser B) → Moves x old mid p → bind p f old.tokens.now old.next ≡ f x mid.tokens.now mid.next

@@ -1,7 +1,7 @@
 -- What the code returns and where it leaves the place, by what reading gives.
 use Rattle.std.specs.Prelude.{◌≡◌, Result, Ok, Err}
 use Rattle.sc_grammar.specs.declared.error.Refused.{Refused}
-use Rattle.sc_grammar.specs.Reading.{Parser, got, Fails}
+use Rattle.sc_grammar.proofs.Reading.{Parser, got, Fails}
 use Rattle.sc_parser.specs.declared.reader.Reader.{Reader}
 
 -- the value was read, and the place moved behind it

@@ -2,7 +2,7 @@
 use Rattle.std.specs.Option.{option_map}
 use Rattle.sc_tree.specs.View.{plain}
 use Rattle.sc_parser.specs.declared.statements.Parts.{Parts}
-use Rattle.sc_grammar.specs.ReadingStatements.{ForParts}
+use Rattle.sc_grammar.proofs.ReadingStatements.{ForParts}
 
 abbrev pub plain_parts : Parts → ForParts
 plain_parts p =

@@ -1,7 +1,7 @@
 //! Reading expressions, with so many levels of depth left.
 
 ghost use Rattle.std.specs.Prelude.{◌≡◌};
-ghost use Rattle.sc_grammar.specs.ReadingExpressions as reading;
+ghost use Rattle.sc_grammar.proofs.ReadingExpressions as reading;
 
 use crate::marks::prefix_of;
 use crate::reader::Reader;
@@ -41,12 +41,12 @@ impl Reader<'_> {
     ghost use Rattle.std.specs.Option.{option_map};
     ghost use Rattle.sc_tree.specs.Plain.{Expression};
     ghost use Rattle.sc_tree.specs.View.{plain, plain_link, plain_tail};
-    ghost use Rattle.sc_grammar.specs.Reading.{Fails, no_deeper};
+    ghost use Rattle.sc_grammar.proofs.Reading.{Fails, no_deeper};
     ghost use Rattle.sc_parser.specs.Returned.{Gives};
-    ghost use Rattle.sc_grammar.specs.ReadingExpressions.{unary, assigned, branched, level_by, operand_at, begins_expression};
+    ghost use Rattle.sc_grammar.proofs.ReadingExpressions.{unary, assigned, branched, level_by, operand_at, begins_expression};
 
     /// The refusal of an expression that is too deep.
-    #[tactic(auto, unfolding(sc_grammar::specs::Reading::bind, sc_grammar::specs::Reading::next_is, sc_grammar::specs::Reading::too_deep, sc_grammar::specs::Reading::fail))]
+    #[tactic(auto, unfolding(sc_grammar::proofs::Reading::bind, sc_grammar::proofs::Reading::next_is, sc_grammar::proofs::Reading::too_deep, sc_grammar::proofs::Reading::fail))]
     fn no_deeper_expression(&self) -> Refused
         ensures { Fails result (no_deeper {A = Expression} begins_expression self.now.tokens.now self.now.next) }
     {
@@ -59,7 +59,7 @@ impl Reader<'_> {
 
     /// An assignment, or a condition.
     #[cycle(expression)]
-    #[tactic(auto, unfolding(sc_grammar::specs::Reading::bind, sc_grammar::specs::Reading::pure, sc_grammar::specs::Reading::here, sc_grammar::specs::Reading::next_is, sc_grammar::specs::Reading::too_deep, sc_grammar::specs::Reading::fail, sc_grammar::specs::ReadingExpressions::assigned, sc_grammar::specs::ReadingExpressions::assign_by, sc_grammar::specs::ReadingExpressions::cond))]
+    #[tactic(auto, unfolding(sc_grammar::proofs::Reading::bind, sc_grammar::proofs::Reading::pure, sc_grammar::proofs::Reading::here, sc_grammar::proofs::Reading::next_is, sc_grammar::proofs::Reading::too_deep, sc_grammar::proofs::Reading::fail, sc_grammar::proofs::ReadingExpressions::assigned, sc_grammar::proofs::ReadingExpressions::assign_by, sc_grammar::proofs::ReadingExpressions::cond))]
     pub fn assigned(&mut self, levels: usize) -> Result<Expr, Refused>
         ensures { Gives plain result self.old self.new (assigned levels) }
     {
@@ -80,7 +80,7 @@ impl Reader<'_> {
 
     /// What stands behind the `:` of a condition.
     #[cycle(expression)]
-    #[tactic(auto, unfolding(sc_grammar::specs::Reading::bind, sc_grammar::specs::Reading::next_is, sc_grammar::specs::Reading::too_deep, sc_grammar::specs::Reading::fail, sc_grammar::specs::ReadingExpressions::branched, sc_grammar::specs::ReadingExpressions::cond))]
+    #[tactic(auto, unfolding(sc_grammar::proofs::Reading::bind, sc_grammar::proofs::Reading::next_is, sc_grammar::proofs::Reading::too_deep, sc_grammar::proofs::Reading::fail, sc_grammar::proofs::ReadingExpressions::branched, sc_grammar::proofs::ReadingExpressions::cond))]
     fn branched(&mut self, levels: usize) -> Result<Expr, Refused>
         ensures { Gives plain result self.old self.new (branched levels) }
     {
@@ -92,7 +92,7 @@ impl Reader<'_> {
 
     /// A choice between two expressions, or operands of the loosest level.
     #[cycle(expression)]
-    #[tactic(auto, unfolding(sc_grammar::specs::Reading::bind, sc_grammar::specs::Reading::pure, sc_grammar::specs::Reading::here, sc_grammar::specs::Reading::takes_if, sc_grammar::specs::Reading::maybe, sc_grammar::specs::ReadingExpressions::cond, sc_grammar::specs::ReadingExpressions::cond_by))]
+    #[tactic(auto, unfolding(sc_grammar::proofs::Reading::bind, sc_grammar::proofs::Reading::pure, sc_grammar::proofs::Reading::here, sc_grammar::proofs::Reading::takes_if, sc_grammar::proofs::Reading::maybe, sc_grammar::proofs::ReadingExpressions::cond, sc_grammar::proofs::ReadingExpressions::cond_by))]
     fn cond(&mut self, levels: usize) -> Result<Expr, Refused>
         ensures { Gives plain result self.old self.new (reading.cond levels) }
     {
@@ -109,7 +109,7 @@ impl Reader<'_> {
 
     /// What stands behind the `?`.
     #[cycle(expression)]
-    #[tactic(auto, using(sc_tree::proofs::ViewLaws::expression_views), unfolding(sc_grammar::specs::Reading::bind, sc_grammar::specs::Reading::pure, sc_grammar::specs::ReadingExpressions::choice_after))]
+    #[tactic(auto, using(sc_tree::proofs::ViewLaws::expression_views), unfolding(sc_grammar::proofs::Reading::bind, sc_grammar::proofs::Reading::pure, sc_grammar::proofs::ReadingExpressions::choice_after))]
     fn choice_after(
         &mut self,
         start: Position,
@@ -129,7 +129,7 @@ impl Reader<'_> {
 
     /// Operands that are joined by operators below this level, or one alone.
     #[cycle(expression)]
-    #[tactic(auto, unfolding(sc_grammar::specs::Reading::bind, sc_grammar::specs::Reading::pure, sc_grammar::specs::Reading::here, sc_grammar::specs::ReadingExpressions::level_by))]
+    #[tactic(auto, unfolding(sc_grammar::proofs::Reading::bind, sc_grammar::proofs::Reading::pure, sc_grammar::proofs::Reading::here, sc_grammar::proofs::ReadingExpressions::level_by))]
     fn level(&mut self, level: u32, levels: usize) -> Result<Expr, Refused>
         ensures { Gives plain result self.old self.new (level_by (unary levels) level) }
     {
@@ -147,7 +147,7 @@ impl Reader<'_> {
 
     /// The operators of this level behind the first operand, with theirs.
     #[cycle(expression)]
-    #[tactic(auto, using(sc_grammar::proofs::ManyLaws::turns), unfolding(sc_grammar::specs::Reading::bind, sc_grammar::specs::Reading::pure, sc_grammar::specs::ReadingExpressions::with_links))]
+    #[tactic(auto, using(sc_grammar::proofs::ManyLaws::turns), unfolding(sc_grammar::proofs::Reading::bind, sc_grammar::proofs::Reading::pure, sc_grammar::proofs::ReadingExpressions::with_links))]
     fn with_links(
         &mut self,
         level: u32,
@@ -168,7 +168,7 @@ impl Reader<'_> {
     }
 
     #[cycle(expression)]
-    #[tactic(auto, using(sc_tree::proofs::ViewLaws::expression_views), unfolding(sc_grammar::specs::Reading::bind, sc_grammar::specs::Reading::pure, sc_grammar::specs::Reading::here, sc_grammar::specs::ReadingExpressions::one_link))]
+    #[tactic(auto, using(sc_tree::proofs::ViewLaws::expression_views), unfolding(sc_grammar::proofs::Reading::bind, sc_grammar::proofs::Reading::pure, sc_grammar::proofs::Reading::here, sc_grammar::proofs::ReadingExpressions::one_link))]
     fn one_link(&mut self, level: u32, levels: usize) -> Result<Option<Link>, Refused>
         ensures { Gives (option_map plain_link) result self.old self.new (reading.one_link (level_by (unary levels) level) level) }
     {
@@ -187,7 +187,7 @@ impl Reader<'_> {
 
     /// The `&&` or `||` of this level behind the first operand, with their operands.
     #[cycle(expression)]
-    #[tactic(auto, using(sc_grammar::proofs::ManyLaws::turns), unfolding(sc_grammar::specs::Reading::bind, sc_grammar::specs::Reading::pure, sc_grammar::specs::ReadingExpressions::with_operands))]
+    #[tactic(auto, using(sc_grammar::proofs::ManyLaws::turns), unfolding(sc_grammar::proofs::Reading::bind, sc_grammar::proofs::Reading::pure, sc_grammar::proofs::ReadingExpressions::with_operands))]
     fn with_operands(
         &mut self,
         level: u32,
@@ -208,7 +208,7 @@ impl Reader<'_> {
     }
 
     #[cycle(expression)]
-    #[tactic(auto, unfolding(sc_grammar::specs::Reading::bind, sc_grammar::specs::Reading::pure, sc_grammar::specs::Reading::takes_if, sc_grammar::specs::Reading::maybe, sc_grammar::specs::ReadingExpressions::one_operand))]
+    #[tactic(auto, unfolding(sc_grammar::proofs::Reading::bind, sc_grammar::proofs::Reading::pure, sc_grammar::proofs::Reading::takes_if, sc_grammar::proofs::Reading::maybe, sc_grammar::proofs::ReadingExpressions::one_operand))]
     fn one_operand(&mut self, level: u32, levels: usize) -> Result<Option<Expr>, Refused>
         ensures { Gives (option_map plain) result self.old self.new (reading.one_operand (level_by (unary levels) level) level) }
     {
@@ -221,7 +221,7 @@ impl Reader<'_> {
 
     /// An operand, with what stands before and behind it.
     #[cycle(expression)]
-    #[tactic(auto, unfolding(sc_grammar::specs::Reading::bind, sc_grammar::specs::Reading::pure, sc_grammar::specs::Reading::here, sc_grammar::specs::Reading::next_is, sc_grammar::specs::Reading::too_deep, sc_grammar::specs::Reading::takes_if, sc_grammar::specs::Reading::maybe, sc_grammar::specs::ReadingExpressions::unary, sc_grammar::specs::ReadingExpressions::unary_by, sc_grammar::specs::ReadingExpressions::prefix_after, sc_grammar::specs::ReadingExpressions::no_prefix))]
+    #[tactic(auto, unfolding(sc_grammar::proofs::Reading::bind, sc_grammar::proofs::Reading::pure, sc_grammar::proofs::Reading::here, sc_grammar::proofs::Reading::next_is, sc_grammar::proofs::Reading::too_deep, sc_grammar::proofs::Reading::takes_if, sc_grammar::proofs::Reading::maybe, sc_grammar::proofs::ReadingExpressions::unary, sc_grammar::proofs::ReadingExpressions::unary_by, sc_grammar::proofs::ReadingExpressions::prefix_after, sc_grammar::proofs::ReadingExpressions::no_prefix))]
     fn unary(&mut self, levels: usize) -> Result<Expr, Refused>
         ensures { Gives plain result self.old self.new (unary levels) }
     {
@@ -242,7 +242,7 @@ impl Reader<'_> {
 
     /// The operand of an operator that stands before it.
     #[cycle(expression)]
-    #[tactic(auto, unfolding(sc_grammar::specs::Reading::bind, sc_grammar::specs::Reading::pure, sc_grammar::specs::ReadingExpressions::prefix_after))]
+    #[tactic(auto, unfolding(sc_grammar::proofs::Reading::bind, sc_grammar::proofs::Reading::pure, sc_grammar::proofs::ReadingExpressions::prefix_after))]
     fn prefix_after(
         &mut self,
         start: Position,
@@ -258,7 +258,7 @@ impl Reader<'_> {
 
     /// A cast or an expression, behind the parenthesis that starts it.
     #[cycle(expression)]
-    #[tactic(auto, unfolding(sc_grammar::specs::Reading::bind, sc_grammar::specs::Reading::pure, sc_grammar::specs::Reading::next_is, sc_grammar::specs::Reading::too_deep, sc_grammar::specs::Reading::takes_if, sc_grammar::specs::Reading::maybe, sc_grammar::specs::ReadingExpressions::parenthesis_after, sc_grammar::specs::ReadingExpressions::cast_after))]
+    #[tactic(auto, unfolding(sc_grammar::proofs::Reading::bind, sc_grammar::proofs::Reading::pure, sc_grammar::proofs::Reading::next_is, sc_grammar::proofs::Reading::too_deep, sc_grammar::proofs::Reading::takes_if, sc_grammar::proofs::Reading::maybe, sc_grammar::proofs::ReadingExpressions::parenthesis_after, sc_grammar::proofs::ReadingExpressions::cast_after))]
     fn parenthesis_after(&mut self, start: Position, levels: usize) -> Result<Expr, Refused>
         ensures { Gives plain result self.old self.new (reading.if_cast (assigned levels) start (operand_at levels) (reading.parenthesis_after (assigned levels) start)) }
     {
@@ -276,7 +276,7 @@ impl Reader<'_> {
 
     /// The stars and the operand of a cast.
     #[cycle(expression)]
-    #[tactic(auto, unfolding(sc_grammar::specs::Reading::bind, sc_grammar::specs::Reading::pure, sc_grammar::specs::ReadingExpressions::cast_after))]
+    #[tactic(auto, unfolding(sc_grammar::proofs::Reading::bind, sc_grammar::proofs::Reading::pure, sc_grammar::proofs::ReadingExpressions::cast_after))]
     fn cast_after(&mut self, start: Position, levels: usize) -> Result<Expr, Refused>
         ensures { Gives plain result self.old self.new (reading.cast_after (assigned levels) start (unary levels)) }
     {
@@ -289,7 +289,7 @@ impl Reader<'_> {
 
     /// The indices, `++` and `--` behind the expression that starts there.
     #[cycle(expression)]
-    #[tactic(auto, using(sc_grammar::proofs::ManyLaws::turns), unfolding(sc_grammar::specs::Reading::bind, sc_grammar::specs::Reading::pure, sc_grammar::specs::ReadingExpressions::with_tails))]
+    #[tactic(auto, using(sc_grammar::proofs::ManyLaws::turns), unfolding(sc_grammar::proofs::Reading::bind, sc_grammar::proofs::Reading::pure, sc_grammar::proofs::ReadingExpressions::with_tails))]
     fn with_tails(&mut self, start: Position, first: Expr, levels: usize) -> Result<Expr, Refused>
         ensures { Gives plain result self.old self.new (reading.with_tails (assigned levels) start (plain first)) }
     {
@@ -304,7 +304,7 @@ impl Reader<'_> {
     }
 
     #[cycle(expression)]
-    #[tactic(auto, using(sc_tree::proofs::ViewLaws::expression_views), unfolding(sc_grammar::specs::Reading::bind, sc_grammar::specs::Reading::pure, sc_grammar::specs::Reading::here, sc_grammar::specs::Reading::takes_if, sc_grammar::specs::Reading::maybe, sc_grammar::specs::ReadingExpressions::one_tail, sc_grammar::specs::ReadingExpressions::index_after))]
+    #[tactic(auto, using(sc_tree::proofs::ViewLaws::expression_views), unfolding(sc_grammar::proofs::Reading::bind, sc_grammar::proofs::Reading::pure, sc_grammar::proofs::Reading::here, sc_grammar::proofs::Reading::takes_if, sc_grammar::proofs::Reading::maybe, sc_grammar::proofs::ReadingExpressions::one_tail, sc_grammar::proofs::ReadingExpressions::index_after))]
     fn one_tail(&mut self, levels: usize) -> Result<Option<Tail>, Refused>
         ensures { Gives (option_map plain_tail) result self.old self.new (reading.one_tail (assigned levels)) }
     {
@@ -325,7 +325,7 @@ impl Reader<'_> {
 
     /// A primary expression that is in no parentheses.
     #[cycle(expression)]
-    #[tactic(auto, using(sc_tree::proofs::ViewLaws::expression_views), unfolding(sc_grammar::specs::Reading::bind, sc_grammar::specs::Reading::pure, sc_grammar::specs::Reading::maybe, sc_grammar::specs::ReadingExpressions::plain_primary))]
+    #[tactic(auto, using(sc_tree::proofs::ViewLaws::expression_views), unfolding(sc_grammar::proofs::Reading::bind, sc_grammar::proofs::Reading::pure, sc_grammar::proofs::Reading::maybe, sc_grammar::proofs::ReadingExpressions::plain_primary))]
     fn plain_primary(&mut self, start: Position, levels: usize) -> Result<Expr, Refused>
         ensures { Gives plain result self.old self.new (reading.plain_primary (assigned levels) start) }
     {
@@ -338,7 +338,7 @@ impl Reader<'_> {
         self.by_word(start)
     }
 
-    #[tactic(auto, using(sc_tree::proofs::ViewLaws::expression_views), unfolding(sc_grammar::specs::Reading::bind, sc_grammar::specs::Reading::pure, sc_grammar::specs::Reading::fail, sc_grammar::specs::Reading::takes_if, sc_grammar::specs::Reading::maybe, sc_grammar::specs::ReadingExpressions::by_word))]
+    #[tactic(auto, using(sc_tree::proofs::ViewLaws::expression_views), unfolding(sc_grammar::proofs::Reading::bind, sc_grammar::proofs::Reading::pure, sc_grammar::proofs::Reading::fail, sc_grammar::proofs::Reading::takes_if, sc_grammar::proofs::Reading::maybe, sc_grammar::proofs::ReadingExpressions::by_word))]
     fn by_word(&mut self, start: Position) -> Result<Expr, Refused>
         ensures { Gives plain result self.old self.new (reading.by_word start) }
     {
@@ -357,7 +357,7 @@ impl Reader<'_> {
         Err(self.unexpected())
     }
 
-    #[tactic(auto, using(sc_tree::proofs::ViewLaws::expression_views), unfolding(sc_grammar::specs::Reading::bind, sc_grammar::specs::Reading::pure, sc_grammar::specs::ReadingExpressions::size_of))]
+    #[tactic(auto, using(sc_tree::proofs::ViewLaws::expression_views), unfolding(sc_grammar::proofs::Reading::bind, sc_grammar::proofs::Reading::pure, sc_grammar::proofs::ReadingExpressions::size_of))]
     fn size_of(&mut self, start: Position) -> Result<Expr, Refused>
         ensures { Gives plain result self.old self.new (reading.size_of start) }
     {
@@ -369,7 +369,7 @@ impl Reader<'_> {
 
     /// A call, or the name alone.
     #[cycle(expression)]
-    #[tactic(auto, using(sc_tree::proofs::ViewLaws::expression_views), unfolding(sc_grammar::specs::Reading::bind, sc_grammar::specs::Reading::pure, sc_grammar::specs::Reading::takes_if, sc_grammar::specs::Reading::maybe, sc_grammar::specs::ReadingExpressions::after_name))]
+    #[tactic(auto, using(sc_tree::proofs::ViewLaws::expression_views), unfolding(sc_grammar::proofs::Reading::bind, sc_grammar::proofs::Reading::pure, sc_grammar::proofs::Reading::takes_if, sc_grammar::proofs::Reading::maybe, sc_grammar::proofs::ReadingExpressions::after_name))]
     fn after_name(&mut self, start: Position, name: u32, levels: usize) -> Result<Expr, Refused>
         ensures { Gives plain result self.old self.new (reading.after_name (assigned levels) start name) }
     {
@@ -382,7 +382,7 @@ impl Reader<'_> {
     }
 
     #[cycle(expression)]
-    #[tactic(auto, using(sc_grammar::proofs::ManyLaws::turns), unfolding(sc_grammar::specs::Reading::bind, sc_grammar::specs::Reading::pure, sc_grammar::specs::Reading::next_is, sc_grammar::specs::ReadingExpressions::arguments))]
+    #[tactic(auto, using(sc_grammar::proofs::ManyLaws::turns), unfolding(sc_grammar::proofs::Reading::bind, sc_grammar::proofs::Reading::pure, sc_grammar::proofs::Reading::next_is, sc_grammar::proofs::ReadingExpressions::arguments))]
     fn arguments(&mut self, levels: usize) -> Result<Exprs, Refused>
         ensures { Gives (map plain) result self.old self.new (reading.arguments (assigned levels)) }
     {
@@ -402,7 +402,7 @@ impl Reader<'_> {
     }
 
     #[cycle(expression)]
-    #[tactic(auto, unfolding(sc_grammar::specs::Reading::bind, sc_grammar::specs::Reading::pure, sc_grammar::specs::Reading::takes_if, sc_grammar::specs::Reading::maybe, sc_grammar::specs::ReadingExpressions::one_more_argument))]
+    #[tactic(auto, unfolding(sc_grammar::proofs::Reading::bind, sc_grammar::proofs::Reading::pure, sc_grammar::proofs::Reading::takes_if, sc_grammar::proofs::Reading::maybe, sc_grammar::proofs::ReadingExpressions::one_more_argument))]
     fn one_more_argument(&mut self, levels: usize) -> Result<Option<Expr>, Refused>
         ensures { Gives (option_map plain) result self.old self.new (reading.one_more_argument (assigned levels)) }
     {
@@ -414,7 +414,7 @@ impl Reader<'_> {
     }
 
     #[cycle(expression)]
-    #[tactic(auto, using(sc_tree::proofs::ViewLaws::expression_views), unfolding(sc_grammar::specs::Reading::bind, sc_grammar::specs::Reading::pure, sc_grammar::specs::Reading::here, sc_grammar::specs::Reading::maybe, sc_grammar::specs::ReadingExpressions::argument))]
+    #[tactic(auto, using(sc_tree::proofs::ViewLaws::expression_views), unfolding(sc_grammar::proofs::Reading::bind, sc_grammar::proofs::Reading::pure, sc_grammar::proofs::Reading::here, sc_grammar::proofs::Reading::maybe, sc_grammar::proofs::ReadingExpressions::argument))]
     fn argument(&mut self, levels: usize) -> Result<Expr, Refused>
         ensures { Gives plain result self.old self.new (reading.argument (assigned levels)) }
     {

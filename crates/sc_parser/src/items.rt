@@ -4,9 +4,9 @@ ghost use Rattle.std.specs.Prelude.{◌≡◌, ◌∷◌, [], List, map, MatchRe
 ghost use Rattle.std.specs.Option.{option_map};
 ghost use Rattle.sc_base.specs.declared.shape.BoundStep.{BoundStep};
 ghost use Rattle.sc_tree.specs.ViewTree.{plain_block};
-ghost use Rattle.sc_grammar.specs.Reading as reading;
-ghost use Rattle.sc_grammar.specs.Reading.{Fails};
-ghost use Rattle.sc_grammar.specs.ReadingItems as items;
+ghost use Rattle.sc_grammar.proofs.Reading as reading;
+ghost use Rattle.sc_grammar.proofs.Reading.{Fails};
+ghost use Rattle.sc_grammar.proofs.ReadingItems as items;
 ghost use Rattle.sc_parser.specs.Returned.{Gives};
 ghost use Rattle.sc_parser.specs.ViewItem.{plain_item};
 
@@ -37,7 +37,7 @@ fn begins_bound(kind: TokenKind) -> bool
 /// What is read of bounds, as steps in postfix order.
 impl Reader<'_> {
     /// The refusal of a bound that is too deep.
-    #[tactic(auto, unfolding(sc_grammar::specs::Reading::bind, sc_grammar::specs::Reading::pure, sc_grammar::specs::Reading::maybe, sc_grammar::specs::Reading::takes_if, sc_grammar::specs::Reading::next_is, sc_grammar::specs::Reading::too_deep, sc_grammar::specs::Reading::fail))]
+    #[tactic(auto, unfolding(sc_grammar::proofs::Reading::bind, sc_grammar::proofs::Reading::pure, sc_grammar::proofs::Reading::maybe, sc_grammar::proofs::Reading::takes_if, sc_grammar::proofs::Reading::next_is, sc_grammar::proofs::Reading::too_deep, sc_grammar::proofs::Reading::fail))]
     fn no_deeper_bound(&self) -> Refused
         ensures { Fails {A = List BoundStep} result (reading.no_deeper items.begins_bound self.now.tokens.now self.now.next) }
     {
@@ -49,7 +49,7 @@ impl Reader<'_> {
     }
 
     #[cycle(bound)]
-    #[tactic(auto, unfolding(sc_grammar::specs::Reading::bind, sc_grammar::specs::Reading::pure, sc_grammar::specs::Reading::maybe, sc_grammar::specs::Reading::takes_if, sc_grammar::specs::ReadingItems::bound))]
+    #[tactic(auto, unfolding(sc_grammar::proofs::Reading::bind, sc_grammar::proofs::Reading::pure, sc_grammar::proofs::Reading::maybe, sc_grammar::proofs::Reading::takes_if, sc_grammar::proofs::ReadingItems::bound))]
     fn bound(&mut self, levels: usize) -> Result<Vec<BoundStep>, Refused>
         ensures moves { Gives (λ v. v.items) result self.old self.new (items.bound levels) }
     {
@@ -60,7 +60,7 @@ impl Reader<'_> {
     }
 
     #[cycle(bound)]
-    #[tactic(auto, using(sc_grammar::proofs::StepsLaws::step_turns), unfolding(sc_grammar::specs::Reading::bind, sc_grammar::specs::Reading::pure, sc_grammar::specs::Reading::maybe, sc_grammar::specs::Reading::takes_if, sc_grammar::specs::ReadingItems::sum, sc_grammar::specs::Reading::many))]
+    #[tactic(auto, using(sc_grammar::proofs::StepsLaws::step_turns), unfolding(sc_grammar::proofs::Reading::bind, sc_grammar::proofs::Reading::pure, sc_grammar::proofs::Reading::maybe, sc_grammar::proofs::Reading::takes_if, sc_grammar::proofs::ReadingItems::sum, sc_grammar::proofs::Reading::many))]
     fn sum(&mut self, levels: usize) -> Result<Vec<BoundStep>, Refused>
         ensures moves { Gives (λ v. v.items) result self.old self.new (items.sum (items.bound levels)) }
     {
@@ -75,7 +75,7 @@ impl Reader<'_> {
     }
 
     #[cycle(bound)]
-    #[tactic(auto, unfolding(sc_grammar::specs::Reading::bind, sc_grammar::specs::Reading::pure, sc_grammar::specs::Reading::maybe, sc_grammar::specs::Reading::takes_if, sc_grammar::specs::ReadingItems::one_summand))]
+    #[tactic(auto, unfolding(sc_grammar::proofs::Reading::bind, sc_grammar::proofs::Reading::pure, sc_grammar::proofs::Reading::maybe, sc_grammar::proofs::Reading::takes_if, sc_grammar::proofs::ReadingItems::one_summand))]
     fn one_summand(&mut self, levels: usize) -> Result<Option<Vec<BoundStep>>, Refused>
         ensures moves { Gives (option_map (λ v. v.items)) result self.old self.new (items.one_summand (items.bound levels)) }
     {
@@ -88,7 +88,7 @@ impl Reader<'_> {
     }
 
     #[cycle(bound)]
-    #[tactic(auto, using(sc_grammar::proofs::StepsLaws::step_turns), unfolding(sc_grammar::specs::Reading::bind, sc_grammar::specs::Reading::pure, sc_grammar::specs::Reading::maybe, sc_grammar::specs::Reading::takes_if, sc_grammar::specs::ReadingItems::product, sc_grammar::specs::Reading::many))]
+    #[tactic(auto, using(sc_grammar::proofs::StepsLaws::step_turns), unfolding(sc_grammar::proofs::Reading::bind, sc_grammar::proofs::Reading::pure, sc_grammar::proofs::Reading::maybe, sc_grammar::proofs::Reading::takes_if, sc_grammar::proofs::ReadingItems::product, sc_grammar::proofs::Reading::many))]
     fn product(&mut self, levels: usize) -> Result<Vec<BoundStep>, Refused>
         ensures moves { Gives (λ v. v.items) result self.old self.new (items.product (items.bound levels)) }
     {
@@ -103,7 +103,7 @@ impl Reader<'_> {
     }
 
     #[cycle(bound)]
-    #[tactic(auto, unfolding(sc_grammar::specs::Reading::bind, sc_grammar::specs::Reading::pure, sc_grammar::specs::Reading::maybe, sc_grammar::specs::Reading::takes_if, sc_grammar::specs::ReadingItems::one_factor))]
+    #[tactic(auto, unfolding(sc_grammar::proofs::Reading::bind, sc_grammar::proofs::Reading::pure, sc_grammar::proofs::Reading::maybe, sc_grammar::proofs::Reading::takes_if, sc_grammar::proofs::ReadingItems::one_factor))]
     fn one_factor(&mut self, levels: usize) -> Result<Option<Vec<BoundStep>>, Refused>
         ensures moves { Gives (option_map (λ v. v.items)) result self.old self.new (items.one_factor (items.bound levels)) }
     {
@@ -116,7 +116,7 @@ impl Reader<'_> {
     }
 
     #[cycle(bound)]
-    #[tactic(auto, unfolding(sc_grammar::specs::Reading::bind, sc_grammar::specs::Reading::pure, sc_grammar::specs::Reading::maybe, sc_grammar::specs::Reading::takes_if, sc_grammar::specs::ReadingItems::unit, sc_grammar::specs::Reading::fail))]
+    #[tactic(auto, unfolding(sc_grammar::proofs::Reading::bind, sc_grammar::proofs::Reading::pure, sc_grammar::proofs::Reading::maybe, sc_grammar::proofs::Reading::takes_if, sc_grammar::proofs::ReadingItems::unit, sc_grammar::proofs::Reading::fail))]
     fn unit(&mut self, levels: usize) -> Result<Vec<BoundStep>, Refused>
         ensures moves { Gives (λ v. v.items) result self.old self.new (items.unit (items.bound levels)) }
     {
@@ -145,7 +145,7 @@ impl Reader<'_> {
 
 /// What is read of objects.
 impl Reader<'_> {
-    #[tactic(auto, unfolding(sc_grammar::specs::Reading::bind, sc_grammar::specs::Reading::pure, sc_grammar::specs::Reading::maybe, sc_grammar::specs::Reading::takes_if, sc_grammar::specs::ReadingItems::one_bound, sc_grammar::specs::Reading::here))]
+    #[tactic(auto, unfolding(sc_grammar::proofs::Reading::bind, sc_grammar::proofs::Reading::pure, sc_grammar::proofs::Reading::maybe, sc_grammar::proofs::Reading::takes_if, sc_grammar::proofs::ReadingItems::one_bound, sc_grammar::proofs::Reading::here))]
     fn one_bound(&mut self, levels: usize) -> Result<Option<Bound>, Refused>
         ensures moves { Gives (λ x. x) result self.old self.new (items.one_bound levels) }
     {
@@ -162,7 +162,7 @@ impl Reader<'_> {
     }
 
     /// As many bounds as there are.
-    #[tactic(auto, using(sc_grammar::proofs::ManyLaws::turns), unfolding(sc_grammar::specs::Reading::bind, sc_grammar::specs::Reading::pure, sc_grammar::specs::Reading::maybe, sc_grammar::specs::Reading::takes_if, sc_grammar::specs::Reading::many))]
+    #[tactic(auto, using(sc_grammar::proofs::ManyLaws::turns), unfolding(sc_grammar::proofs::Reading::bind, sc_grammar::proofs::Reading::pure, sc_grammar::proofs::Reading::maybe, sc_grammar::proofs::Reading::takes_if, sc_grammar::proofs::Reading::many))]
     fn bounds(&mut self, levels: usize) -> Result<Bounds, Refused>
         ensures moves { Gives (λ x. x) result self.old self.new (reading.many (items.one_bound levels)) }
     {
@@ -177,7 +177,7 @@ impl Reader<'_> {
     }
 
     /// The object, behind its first bounds.
-    #[tactic(auto, unfolding(sc_grammar::specs::Reading::bind, sc_grammar::specs::Reading::pure, sc_grammar::specs::Reading::maybe, sc_grammar::specs::Reading::takes_if, sc_grammar::specs::ReadingItems::after_left))]
+    #[tactic(auto, unfolding(sc_grammar::proofs::Reading::bind, sc_grammar::proofs::Reading::pure, sc_grammar::proofs::Reading::maybe, sc_grammar::proofs::Reading::takes_if, sc_grammar::proofs::ReadingItems::after_left))]
     fn after_left(
         &mut self,
         stars: Stars,
@@ -206,7 +206,7 @@ impl Reader<'_> {
     }
 
     /// The object, behind its name.
-    #[tactic(auto, unfolding(sc_grammar::specs::Reading::bind, sc_grammar::specs::Reading::pure, sc_grammar::specs::Reading::maybe, sc_grammar::specs::Reading::takes_if, sc_grammar::specs::ReadingItems::declarator_after))]
+    #[tactic(auto, unfolding(sc_grammar::proofs::Reading::bind, sc_grammar::proofs::Reading::pure, sc_grammar::proofs::Reading::maybe, sc_grammar::proofs::Reading::takes_if, sc_grammar::proofs::ReadingItems::declarator_after))]
     fn declarator_after(
         &mut self,
         stars: Stars,
@@ -220,7 +220,7 @@ impl Reader<'_> {
         self.after_left(stars, own, name, left, levels)
     }
 
-    #[tactic(auto, unfolding(sc_grammar::specs::Reading::bind, sc_grammar::specs::Reading::pure, sc_grammar::specs::Reading::maybe, sc_grammar::specs::Reading::takes_if, sc_grammar::specs::ReadingItems::declarator, sc_grammar::specs::Reading::here))]
+    #[tactic(auto, unfolding(sc_grammar::proofs::Reading::bind, sc_grammar::proofs::Reading::pure, sc_grammar::proofs::Reading::maybe, sc_grammar::proofs::Reading::takes_if, sc_grammar::proofs::ReadingItems::declarator, sc_grammar::proofs::Reading::here))]
     fn declarator(&mut self, levels: usize) -> Result<Shape, Refused>
         ensures moves { Gives (λ x. x) result self.old self.new (items.declarator levels) }
     {
@@ -230,7 +230,7 @@ impl Reader<'_> {
         self.declarator_after(stars, own, name, levels)
     }
 
-    #[tactic(auto, unfolding(sc_grammar::specs::Reading::bind, sc_grammar::specs::Reading::pure, sc_grammar::specs::Reading::maybe, sc_grammar::specs::Reading::takes_if, sc_grammar::specs::ReadingItems::one_more_declarator))]
+    #[tactic(auto, unfolding(sc_grammar::proofs::Reading::bind, sc_grammar::proofs::Reading::pure, sc_grammar::proofs::Reading::maybe, sc_grammar::proofs::Reading::takes_if, sc_grammar::proofs::ReadingItems::one_more_declarator))]
     fn one_more_declarator(&mut self, levels: usize) -> Result<Option<Shape>, Refused>
         ensures moves { Gives (λ x. x) result self.old self.new (items.one_more_declarator levels) }
     {
@@ -244,7 +244,7 @@ impl Reader<'_> {
 
 /// What is read of functions.
 impl Reader<'_> {
-    #[tactic(auto, unfolding(sc_grammar::specs::Reading::bind, sc_grammar::specs::Reading::pure, sc_grammar::specs::Reading::maybe, sc_grammar::specs::Reading::takes_if, sc_grammar::specs::ReadingItems::param, sc_grammar::specs::Reading::here))]
+    #[tactic(auto, unfolding(sc_grammar::proofs::Reading::bind, sc_grammar::proofs::Reading::pure, sc_grammar::proofs::Reading::maybe, sc_grammar::proofs::Reading::takes_if, sc_grammar::proofs::ReadingItems::param, sc_grammar::proofs::Reading::here))]
     fn param(&mut self) -> Result<Param, Refused>
         ensures moves { Gives (λ x. x) result self.old self.new (items.param 0) }
     {
@@ -259,7 +259,7 @@ impl Reader<'_> {
         })
     }
 
-    #[tactic(auto, unfolding(sc_grammar::specs::Reading::bind, sc_grammar::specs::Reading::pure, sc_grammar::specs::Reading::maybe, sc_grammar::specs::Reading::takes_if, sc_grammar::specs::ReadingItems::one_more_param))]
+    #[tactic(auto, unfolding(sc_grammar::proofs::Reading::bind, sc_grammar::proofs::Reading::pure, sc_grammar::proofs::Reading::maybe, sc_grammar::proofs::Reading::takes_if, sc_grammar::proofs::ReadingItems::one_more_param))]
     fn one_more_param(&mut self) -> Result<Option<Param>, Refused>
         ensures moves { Gives (λ x. x) result self.old self.new (items.one_more_param 0) }
     {
@@ -270,7 +270,7 @@ impl Reader<'_> {
         Ok(Some(more))
     }
 
-    #[tactic(auto, using(sc_grammar::proofs::ManyLaws::turns), unfolding(sc_grammar::specs::Reading::bind, sc_grammar::specs::Reading::pure, sc_grammar::specs::Reading::maybe, sc_grammar::specs::Reading::takes_if, sc_grammar::specs::ReadingItems::params, sc_grammar::specs::Reading::next_is, sc_grammar::specs::Reading::many))]
+    #[tactic(auto, using(sc_grammar::proofs::ManyLaws::turns), unfolding(sc_grammar::proofs::Reading::bind, sc_grammar::proofs::Reading::pure, sc_grammar::proofs::Reading::maybe, sc_grammar::proofs::Reading::takes_if, sc_grammar::proofs::ReadingItems::params, sc_grammar::proofs::Reading::next_is, sc_grammar::proofs::Reading::many))]
     fn params(&mut self) -> Result<Params, Refused>
         ensures moves { Gives (λ x. x) result self.old self.new (items.params 0) }
     {
@@ -290,7 +290,7 @@ impl Reader<'_> {
     }
 
     /// The body of a function, or None for a prototype.
-    #[tactic(auto, unfolding(sc_grammar::specs::Reading::bind, sc_grammar::specs::Reading::pure, sc_grammar::specs::Reading::maybe, sc_grammar::specs::Reading::takes_if, sc_grammar::specs::ReadingItems::body))]
+    #[tactic(auto, unfolding(sc_grammar::proofs::Reading::bind, sc_grammar::proofs::Reading::pure, sc_grammar::proofs::Reading::maybe, sc_grammar::proofs::Reading::takes_if, sc_grammar::proofs::ReadingItems::body))]
     fn body(&mut self, levels: usize) -> Result<Option<Block>, Refused>
         ensures moves { Gives (option_map plain_block) result self.old self.new (items.body levels) }
     {
@@ -303,7 +303,7 @@ impl Reader<'_> {
     }
 
     /// The function, behind the parenthesis that follows its name.
-    #[tactic(auto, using(sc_grammar::proofs::ParamsSame::params_same), unfolding(sc_grammar::specs::Reading::bind, sc_grammar::specs::Reading::pure, sc_grammar::specs::Reading::maybe, sc_grammar::specs::Reading::takes_if, sc_grammar::specs::ReadingItems::function_after))]
+    #[tactic(auto, using(sc_grammar::proofs::ParamsSame::params_same), unfolding(sc_grammar::proofs::Reading::bind, sc_grammar::proofs::Reading::pure, sc_grammar::proofs::Reading::maybe, sc_grammar::proofs::Reading::takes_if, sc_grammar::proofs::ReadingItems::function_after))]
     fn function_after(
         &mut self,
         ty: Ty,
@@ -326,7 +326,7 @@ impl Reader<'_> {
         }))
     }
 
-    #[tactic(auto, unfolding(sc_grammar::specs::Reading::bind, sc_grammar::specs::Reading::pure, sc_grammar::specs::Reading::maybe, sc_grammar::specs::Reading::takes_if, sc_grammar::specs::ReadingItems::function_named, sc_grammar::specs::Reading::here))]
+    #[tactic(auto, unfolding(sc_grammar::proofs::Reading::bind, sc_grammar::proofs::Reading::pure, sc_grammar::proofs::Reading::maybe, sc_grammar::proofs::Reading::takes_if, sc_grammar::proofs::ReadingItems::function_named, sc_grammar::proofs::Reading::here))]
     fn function_named(&mut self, ty: Ty, levels: usize) -> Result<Item, Refused>
         ensures moves { Gives plain_item result self.old self.new (items.function_named levels ty) }
     {
@@ -340,7 +340,7 @@ impl Reader<'_> {
 /// What is read of items.
 impl Reader<'_> {
     /// The objects, behind the name of the first.
-    #[tactic(auto, using(sc_grammar::proofs::ManyLaws::turns), unfolding(sc_grammar::specs::Reading::bind, sc_grammar::specs::Reading::pure, sc_grammar::specs::Reading::maybe, sc_grammar::specs::Reading::takes_if, sc_grammar::specs::ReadingItems::objects_after, sc_grammar::specs::Reading::many))]
+    #[tactic(auto, using(sc_grammar::proofs::ManyLaws::turns), unfolding(sc_grammar::proofs::Reading::bind, sc_grammar::proofs::Reading::pure, sc_grammar::proofs::Reading::maybe, sc_grammar::proofs::Reading::takes_if, sc_grammar::proofs::ReadingItems::objects_after, sc_grammar::proofs::Reading::many))]
     fn objects_after(
         &mut self,
         stars: Stars,
@@ -364,7 +364,7 @@ impl Reader<'_> {
     }
 
     /// What an `int` begins.
-    #[tactic(auto, unfolding(sc_grammar::specs::Reading::bind, sc_grammar::specs::Reading::pure, sc_grammar::specs::Reading::maybe, sc_grammar::specs::Reading::takes_if, sc_grammar::specs::ReadingItems::after_int, sc_grammar::specs::Reading::here))]
+    #[tactic(auto, unfolding(sc_grammar::proofs::Reading::bind, sc_grammar::proofs::Reading::pure, sc_grammar::proofs::Reading::maybe, sc_grammar::proofs::Reading::takes_if, sc_grammar::proofs::ReadingItems::after_int, sc_grammar::proofs::Reading::here))]
     fn after_int(&mut self, levels: usize) -> Result<Item, Refused>
         ensures moves { Gives plain_item result self.old self.new (items.after_int levels) }
     {
@@ -379,7 +379,7 @@ impl Reader<'_> {
     }
 
     /// Objects or a function.
-    #[tactic(auto, unfolding(sc_grammar::specs::Reading::bind, sc_grammar::specs::Reading::pure, sc_grammar::specs::Reading::maybe, sc_grammar::specs::Reading::takes_if, sc_grammar::specs::ReadingItems::item))]
+    #[tactic(auto, unfolding(sc_grammar::proofs::Reading::bind, sc_grammar::proofs::Reading::pure, sc_grammar::proofs::Reading::maybe, sc_grammar::proofs::Reading::takes_if, sc_grammar::proofs::ReadingItems::item))]
     pub fn item(&mut self, levels: usize) -> Result<Item, Refused>
         ensures moves { Gives plain_item result self.old self.new (items.item levels) }
     {

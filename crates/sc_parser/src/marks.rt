@@ -3,7 +3,7 @@
 ghost use Rattle.std.specs.Prelude.{◌≡◌, Some, None};
 ghost use Rattle.sc_grammar.specs.Marks as marks;
 ghost use Rattle.sc_grammar.specs.Marks.{operator_of};
-ghost use Rattle.sc_grammar.specs.ReadingExpressions as reading;
+ghost use Rattle.sc_grammar.proofs.ReadingExpressions as reading;
 
 use sc_base::Binary;
 use sc_grammar::{Assigning, Operator, Prefix};

@@ -24,9 +24,9 @@ impl Reader<'_> {
     ghost use Rattle.std.specs.Option.{option_map};
     ghost use Rattle.sc_grammar.specs.Marks.{assigning_of, prefix_of};
     ghost use Rattle.sc_parser.specs.Returned.{Gives, Moves};
-    ghost use Rattle.sc_grammar.specs.Reading.{sees, of_token, mark_by, is_mark, is_word, other_than, name_in};
-    ghost use Rattle.sc_grammar.specs.Reading as reading;
-    ghost use Rattle.sc_grammar.specs.ReadingExpressions.{number_in, format_in, arithmetic_in, is_logical, assigning_in, prefix_in, is_prefix};
+    ghost use Rattle.sc_grammar.proofs.Reading.{sees, of_token, mark_by, is_mark, is_word, other_than, name_in};
+    ghost use Rattle.sc_grammar.proofs.Reading as reading;
+    ghost use Rattle.sc_grammar.proofs.ReadingExpressions.{number_in, format_in, arithmetic_in, is_logical, assigning_in, prefix_in, is_prefix};
     ghost use Rattle.sc_grammar.specs.declared.error.Refused.TheVariants.{Syntax, Deep};
 
     /// What the next token is.
@@ -101,7 +101,7 @@ impl Reader<'_> {
     }
 
     /// Goes past the next token if it is this mark.
-    #[tactic(auto, unfolding(sc_grammar::specs::Reading::bind, sc_grammar::specs::Reading::pure, sc_grammar::specs::Reading::maybe, sc_grammar::specs::Reading::takes_if))]
+    #[tactic(auto, unfolding(sc_grammar::proofs::Reading::bind, sc_grammar::proofs::Reading::pure, sc_grammar::proofs::Reading::maybe, sc_grammar::proofs::Reading::takes_if))]
     pub fn takes_mark(&mut self, mark: Mark) -> bool
         ensures { Moves result self.old self.new (reading.takes_mark mark) }
     {
@@ -113,7 +113,7 @@ impl Reader<'_> {
     }
 
     /// Goes past the next token if it is this word.
-    #[tactic(auto, unfolding(sc_grammar::specs::Reading::bind, sc_grammar::specs::Reading::pure, sc_grammar::specs::Reading::maybe, sc_grammar::specs::Reading::takes_if))]
+    #[tactic(auto, unfolding(sc_grammar::proofs::Reading::bind, sc_grammar::proofs::Reading::pure, sc_grammar::proofs::Reading::maybe, sc_grammar::proofs::Reading::takes_if))]
     pub fn takes_word(&mut self, word: Word) -> bool
         ensures { Moves result self.old self.new (reading.takes_word word) }
     {
@@ -125,7 +125,7 @@ impl Reader<'_> {
     }
 
     /// Goes past the next token, which must be this mark.
-    #[tactic(auto, unfolding(sc_grammar::specs::Reading::bind, sc_grammar::specs::Reading::pure, sc_grammar::specs::Reading::fail, sc_grammar::specs::Reading::maybe, sc_grammar::specs::Reading::must))]
+    #[tactic(auto, unfolding(sc_grammar::proofs::Reading::bind, sc_grammar::proofs::Reading::pure, sc_grammar::proofs::Reading::fail, sc_grammar::proofs::Reading::maybe, sc_grammar::proofs::Reading::must))]
     pub fn mark(&mut self, mark: Mark) -> Result<(), Refused>
         ensures { Gives (λ x. x) result self.old self.new (reading.mark mark) }
     {
@@ -138,7 +138,7 @@ impl Reader<'_> {
     }
 
     /// Goes past the next token, which must be this word.
-    #[tactic(auto, unfolding(sc_grammar::specs::Reading::bind, sc_grammar::specs::Reading::pure, sc_grammar::specs::Reading::fail, sc_grammar::specs::Reading::maybe, sc_grammar::specs::Reading::must))]
+    #[tactic(auto, unfolding(sc_grammar::proofs::Reading::bind, sc_grammar::proofs::Reading::pure, sc_grammar::proofs::Reading::fail, sc_grammar::proofs::Reading::maybe, sc_grammar::proofs::Reading::must))]
     pub fn word(&mut self, word: Word) -> Result<(), Refused>
         ensures { Gives (λ x. x) result self.old self.new (reading.word word) }
     {
@@ -151,7 +151,7 @@ impl Reader<'_> {
     }
 
     /// Goes past the next token, which must be a name.
-    #[tactic(auto, unfolding(sc_grammar::specs::Reading::bind, sc_grammar::specs::Reading::pure, sc_grammar::specs::Reading::fail, sc_grammar::specs::Reading::must))]
+    #[tactic(auto, unfolding(sc_grammar::proofs::Reading::bind, sc_grammar::proofs::Reading::pure, sc_grammar::proofs::Reading::fail, sc_grammar::proofs::Reading::must))]
     pub fn name(&mut self) -> Result<u32, Refused>
         ensures { Gives (λ x. x) result self.old self.new reading.a_name }
     {
@@ -162,7 +162,7 @@ impl Reader<'_> {
     }
 
     /// Goes past the next token if it is a name.
-    #[tactic(auto, unfolding(sc_grammar::specs::Reading::maybe))]
+    #[tactic(auto, unfolding(sc_grammar::proofs::Reading::maybe))]
     pub fn take_name(&mut self) -> Option<u32>
         ensures { Moves result self.old self.new (reading.maybe name_in) }
     {
@@ -176,7 +176,7 @@ impl Reader<'_> {
     }
 
     /// Goes past the next token if it is a number.
-    #[tactic(auto, unfolding(sc_grammar::specs::Reading::maybe))]
+    #[tactic(auto, unfolding(sc_grammar::proofs::Reading::maybe))]
     pub fn take_number(&mut self) -> Option<i64>
         ensures { Moves result self.old self.new (reading.maybe number_in) }
     {
@@ -190,7 +190,7 @@ impl Reader<'_> {
     }
 
     /// Goes past the next token if it is a format.
-    #[tactic(auto, unfolding(sc_grammar::specs::Reading::maybe))]
+    #[tactic(auto, unfolding(sc_grammar::proofs::Reading::maybe))]
     pub fn take_format(&mut self) -> Option<u32>
         ensures { Moves result self.old self.new (reading.maybe format_in) }
     {
@@ -204,7 +204,7 @@ impl Reader<'_> {
     }
 
     /// Goes past the next token if it is an operator of this level whose operands are all evaluated.
-    #[tactic(auto, unfolding(sc_grammar::specs::Reading::maybe))]
+    #[tactic(auto, unfolding(sc_grammar::proofs::Reading::maybe))]
     pub fn take_operator(&mut self, level: u32) -> Option<Binary>
         ensures { Moves result self.old self.new (reading.maybe (arithmetic_in level)) }
     {
@@ -214,7 +214,7 @@ impl Reader<'_> {
     }
 
     /// Goes past the next token if it is `&&` and the level is 8, or `||` and the level is 9.
-    #[tactic(auto, unfolding(sc_grammar::specs::Reading::bind, sc_grammar::specs::Reading::pure, sc_grammar::specs::Reading::maybe, sc_grammar::specs::Reading::takes_if))]
+    #[tactic(auto, unfolding(sc_grammar::proofs::Reading::bind, sc_grammar::proofs::Reading::pure, sc_grammar::proofs::Reading::maybe, sc_grammar::proofs::Reading::takes_if))]
     pub fn takes_logical(&mut self, level: u32) -> bool
         ensures { Moves result self.old self.new (reading.takes_if (is_logical level)) }
     {
@@ -229,7 +229,7 @@ impl Reader<'_> {
     }
 
     /// Goes past the next token if it assigns.
-    #[tactic(auto, unfolding(sc_grammar::specs::Reading::maybe))]
+    #[tactic(auto, unfolding(sc_grammar::proofs::Reading::maybe))]
     pub fn take_assigning(&mut self) -> Option<Assigning>
         ensures { Moves result self.old self.new (reading.maybe assigning_in) }
     {
@@ -239,7 +239,7 @@ impl Reader<'_> {
     }
 
     /// Goes past the next token if it is an operator before an operand.
-    #[tactic(auto, unfolding(sc_grammar::specs::Reading::maybe))]
+    #[tactic(auto, unfolding(sc_grammar::proofs::Reading::maybe))]
     pub fn take_prefix(&mut self) -> Option<Prefix>
         ensures { Moves result self.old self.new (reading.maybe prefix_in) }
     {

@@ -7,10 +7,10 @@ use sc_tree::{Mark, Word};
 
 impl Reader<'_> {
     ghost use Rattle.sc_parser.specs.Returned.{Gives, Moves};
-    ghost use Rattle.sc_grammar.specs.ReadingExpressions as reading;
+    ghost use Rattle.sc_grammar.proofs.ReadingExpressions as reading;
 
     /// As many stars as there are.
-    #[tactic(auto, using(sc_grammar::proofs::ManyLaws::turns), unfolding(sc_grammar::specs::ReadingExpressions::stars))]
+    #[tactic(auto, using(sc_grammar::proofs::ManyLaws::turns), unfolding(sc_grammar::proofs::ReadingExpressions::stars))]
     pub fn stars(&mut self) -> Result<Stars, Refused>
         ensures { Gives (λ s. s) result self.old self.new reading.stars }
     {
@@ -24,7 +24,7 @@ impl Reader<'_> {
         Ok(Stars::from_vec(stars))
     }
 
-    #[tactic(auto, unfolding(sc_grammar::specs::Reading::bind, sc_grammar::specs::Reading::pure, sc_grammar::specs::Reading::takes_if, sc_grammar::specs::Reading::maybe, sc_grammar::specs::ReadingExpressions::one_star))]
+    #[tactic(auto, unfolding(sc_grammar::proofs::Reading::bind, sc_grammar::proofs::Reading::pure, sc_grammar::proofs::Reading::takes_if, sc_grammar::proofs::Reading::maybe, sc_grammar::proofs::ReadingExpressions::one_star))]
     fn one_star(&mut self) -> Option<Star>
         ensures { Moves result self.old self.new reading.one_star }
     {

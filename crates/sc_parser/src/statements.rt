@@ -5,10 +5,10 @@ ghost use Rattle.std.specs.Option.{option_map};
 ghost use Rattle.sc_tree.specs.PlainStmt.{Statement};
 ghost use Rattle.sc_tree.specs.View.{plain};
 ghost use Rattle.sc_tree.specs.ViewStmt.{plain_stmt, plain_arm, declared};
-ghost use Rattle.sc_grammar.specs.Reading as reading;
-ghost use Rattle.sc_grammar.specs.Reading.{Fails};
-ghost use Rattle.sc_grammar.specs.ReadingExpressions as expressions;
-ghost use Rattle.sc_grammar.specs.ReadingStatements as statements;
+ghost use Rattle.sc_grammar.proofs.Reading as reading;
+ghost use Rattle.sc_grammar.proofs.Reading.{Fails};
+ghost use Rattle.sc_grammar.proofs.ReadingExpressions as expressions;
+ghost use Rattle.sc_grammar.proofs.ReadingStatements as statements;
 ghost use Rattle.sc_parser.specs.Returned.{Gives};
 ghost use Rattle.sc_parser.specs.ViewParts.{plain_parts};
 
@@ -58,7 +58,7 @@ fn begins_statement_mark(mark: Mark) -> bool
 /// What is read of expressions and locals in statements.
 impl Reader<'_> {
     /// What a local begins with.
-    #[tactic(auto, unfolding(sc_grammar::specs::Reading::bind, sc_grammar::specs::Reading::pure, sc_grammar::specs::Reading::maybe, sc_grammar::specs::Reading::takes_if, sc_grammar::specs::ReadingStatements::initial))]
+    #[tactic(auto, unfolding(sc_grammar::proofs::Reading::bind, sc_grammar::proofs::Reading::pure, sc_grammar::proofs::Reading::maybe, sc_grammar::proofs::Reading::takes_if, sc_grammar::proofs::ReadingStatements::initial))]
     fn initial(&mut self, levels: usize) -> Result<Option<Expr>, Refused>
         ensures moves { Gives (option_map plain) result self.old self.new (statements.initial (expressions.assigned levels)) }
     {
@@ -69,7 +69,7 @@ impl Reader<'_> {
         Ok(Some(e))
     }
 
-    #[tactic(auto, unfolding(sc_grammar::specs::Reading::bind, sc_grammar::specs::Reading::pure, sc_grammar::specs::Reading::maybe, sc_grammar::specs::Reading::takes_if, sc_grammar::specs::ReadingStatements::local, sc_grammar::specs::Reading::here))]
+    #[tactic(auto, unfolding(sc_grammar::proofs::Reading::bind, sc_grammar::proofs::Reading::pure, sc_grammar::proofs::Reading::maybe, sc_grammar::proofs::Reading::takes_if, sc_grammar::proofs::ReadingStatements::local, sc_grammar::proofs::Reading::here))]
     fn local(&mut self, levels: usize) -> Result<Local, Refused>
         ensures moves { Gives declared result self.old self.new (statements.local (expressions.assigned levels)) }
     {
@@ -86,7 +86,7 @@ impl Reader<'_> {
         })
     }
 
-    #[tactic(auto, unfolding(sc_grammar::specs::Reading::bind, sc_grammar::specs::Reading::pure, sc_grammar::specs::Reading::maybe, sc_grammar::specs::Reading::takes_if, sc_grammar::specs::ReadingStatements::one_more_local))]
+    #[tactic(auto, unfolding(sc_grammar::proofs::Reading::bind, sc_grammar::proofs::Reading::pure, sc_grammar::proofs::Reading::maybe, sc_grammar::proofs::Reading::takes_if, sc_grammar::proofs::ReadingStatements::one_more_local))]
     fn one_more_local(&mut self, levels: usize) -> Result<Option<Local>, Refused>
         ensures moves { Gives (option_map declared) result self.old self.new (statements.one_more_local (expressions.assigned levels)) }
     {
@@ -98,7 +98,7 @@ impl Reader<'_> {
     }
 
     /// The locals behind an `int`.
-    #[tactic(auto, using(sc_tree::proofs::ViewStmtLaws::statement_views, sc_grammar::proofs::ManyLaws::turns), unfolding(sc_grammar::specs::Reading::bind, sc_grammar::specs::Reading::pure, sc_grammar::specs::Reading::maybe, sc_grammar::specs::Reading::takes_if, sc_grammar::specs::ReadingStatements::locals, sc_grammar::specs::Reading::many))]
+    #[tactic(auto, using(sc_tree::proofs::ViewStmtLaws::statement_views, sc_grammar::proofs::ManyLaws::turns), unfolding(sc_grammar::proofs::Reading::bind, sc_grammar::proofs::Reading::pure, sc_grammar::proofs::Reading::maybe, sc_grammar::proofs::Reading::takes_if, sc_grammar::proofs::ReadingStatements::locals, sc_grammar::proofs::Reading::many))]
     fn locals(&mut self, levels: usize) -> Result<Stmt, Refused>
         ensures moves { Gives plain_stmt result self.old self.new (statements.locals (expressions.assigned levels)) }
     {
@@ -116,7 +116,7 @@ impl Reader<'_> {
     }
 
     /// An expression that may be left out before this mark.
-    #[tactic(auto, unfolding(sc_grammar::specs::Reading::bind, sc_grammar::specs::Reading::pure, sc_grammar::specs::Reading::maybe, sc_grammar::specs::Reading::takes_if, sc_grammar::specs::ReadingStatements::optional_before, sc_grammar::specs::Reading::next_is))]
+    #[tactic(auto, unfolding(sc_grammar::proofs::Reading::bind, sc_grammar::proofs::Reading::pure, sc_grammar::proofs::Reading::maybe, sc_grammar::proofs::Reading::takes_if, sc_grammar::proofs::ReadingStatements::optional_before, sc_grammar::proofs::Reading::next_is))]
     fn optional_before(&mut self, mark: Mark, levels: usize) -> Result<Option<Expr>, Refused>
         ensures moves { Gives (option_map plain) result self.old self.new (statements.optional_before (expressions.assigned levels) mark) }
     {
@@ -128,7 +128,7 @@ impl Reader<'_> {
     }
 
     /// The expression in parentheses that an `if` or a loop tests.
-    #[tactic(auto, unfolding(sc_grammar::specs::Reading::bind, sc_grammar::specs::Reading::pure, sc_grammar::specs::Reading::maybe, sc_grammar::specs::Reading::takes_if, sc_grammar::specs::ReadingStatements::test))]
+    #[tactic(auto, unfolding(sc_grammar::proofs::Reading::bind, sc_grammar::proofs::Reading::pure, sc_grammar::proofs::Reading::maybe, sc_grammar::proofs::Reading::takes_if, sc_grammar::proofs::ReadingStatements::test))]
     fn test(&mut self, levels: usize) -> Result<Expr, Refused>
         ensures moves { Gives plain result self.old self.new (statements.test (expressions.assigned levels)) }
     {
@@ -139,7 +139,7 @@ impl Reader<'_> {
     }
 
     /// The right side of a `:=` or `:-`.
-    #[tactic(auto, using(sc_tree::proofs::ViewStmtLaws::statement_views), unfolding(sc_grammar::specs::Reading::bind, sc_grammar::specs::Reading::pure, sc_grammar::specs::Reading::maybe, sc_grammar::specs::Reading::takes_if, sc_grammar::specs::ReadingStatements::split_after))]
+    #[tactic(auto, using(sc_tree::proofs::ViewStmtLaws::statement_views), unfolding(sc_grammar::proofs::Reading::bind, sc_grammar::proofs::Reading::pure, sc_grammar::proofs::Reading::maybe, sc_grammar::proofs::Reading::takes_if, sc_grammar::proofs::ReadingStatements::split_after))]
     fn split_after(
         &mut self,
         oneway: bool,
@@ -160,7 +160,7 @@ impl Reader<'_> {
         })
     }
 
-    #[tactic(auto, using(sc_tree::proofs::ViewStmtLaws::statement_views), unfolding(sc_grammar::specs::Reading::bind, sc_grammar::specs::Reading::pure, sc_grammar::specs::Reading::maybe, sc_grammar::specs::Reading::takes_if, sc_grammar::specs::ReadingStatements::by_expression, sc_grammar::specs::Reading::here, sc_grammar::specs::Reading::fail))]
+    #[tactic(auto, using(sc_tree::proofs::ViewStmtLaws::statement_views), unfolding(sc_grammar::proofs::Reading::bind, sc_grammar::proofs::Reading::pure, sc_grammar::proofs::Reading::maybe, sc_grammar::proofs::Reading::takes_if, sc_grammar::proofs::ReadingStatements::by_expression, sc_grammar::proofs::Reading::here, sc_grammar::proofs::Reading::fail))]
     fn by_expression(&mut self, levels: usize) -> Result<Stmt, Refused>
         ensures moves { Gives plain_stmt result self.old self.new (statements.by_expression (expressions.assigned levels)) }
     {
@@ -178,7 +178,7 @@ impl Reader<'_> {
         Err(self.unexpected())
     }
 
-    #[tactic(auto, using(sc_tree::proofs::ViewStmtLaws::statement_views), unfolding(sc_grammar::specs::Reading::bind, sc_grammar::specs::Reading::pure, sc_grammar::specs::Reading::maybe, sc_grammar::specs::Reading::takes_if, sc_grammar::specs::ReadingStatements::return_after))]
+    #[tactic(auto, using(sc_tree::proofs::ViewStmtLaws::statement_views), unfolding(sc_grammar::proofs::Reading::bind, sc_grammar::proofs::Reading::pure, sc_grammar::proofs::Reading::maybe, sc_grammar::proofs::Reading::takes_if, sc_grammar::proofs::ReadingStatements::return_after))]
     fn return_after(&mut self, own: Position, levels: usize) -> Result<Stmt, Refused>
         ensures moves { Gives plain_stmt result self.old self.new (statements.return_after (expressions.assigned levels) own) }
     {
@@ -192,7 +192,7 @@ impl Reader<'_> {
     }
 
     /// A statement that has no statement inside.
-    #[tactic(auto, using(sc_tree::proofs::ViewStmtLaws::statement_views), unfolding(sc_grammar::specs::Reading::bind, sc_grammar::specs::Reading::pure, sc_grammar::specs::Reading::maybe, sc_grammar::specs::Reading::takes_if, sc_grammar::specs::ReadingStatements::by_other_word))]
+    #[tactic(auto, using(sc_tree::proofs::ViewStmtLaws::statement_views), unfolding(sc_grammar::proofs::Reading::bind, sc_grammar::proofs::Reading::pure, sc_grammar::proofs::Reading::maybe, sc_grammar::proofs::Reading::takes_if, sc_grammar::proofs::ReadingStatements::by_other_word))]
     fn by_other_word(&mut self, own: Position, levels: usize) -> Result<Stmt, Refused>
         ensures moves { Gives plain_stmt result self.old self.new (statements.by_other_word (expressions.assigned levels) (statements.statement levels) own) }
     {
@@ -222,7 +222,7 @@ struct Parts {
 /// What is read in the parentheses of a `for`.
 impl Reader<'_> {
     /// An expression that may be left out, and this mark behind it.
-    #[tactic(auto, unfolding(sc_grammar::specs::Reading::bind, sc_grammar::specs::Reading::pure, sc_grammar::specs::Reading::maybe, sc_grammar::specs::Reading::takes_if, sc_grammar::specs::ReadingStatements::optional_until))]
+    #[tactic(auto, unfolding(sc_grammar::proofs::Reading::bind, sc_grammar::proofs::Reading::pure, sc_grammar::proofs::Reading::maybe, sc_grammar::proofs::Reading::takes_if, sc_grammar::proofs::ReadingStatements::optional_until))]
     fn optional_until(&mut self, mark: Mark, levels: usize) -> Result<Option<Expr>, Refused>
         ensures moves { Gives (option_map plain) result self.old self.new (statements.optional_until (expressions.assigned levels) mark) }
     {
@@ -231,7 +231,7 @@ impl Reader<'_> {
         Ok(e)
     }
 
-    #[tactic(auto, unfolding(sc_grammar::specs::Reading::bind, sc_grammar::specs::Reading::pure, sc_grammar::specs::Reading::maybe, sc_grammar::specs::Reading::takes_if, sc_grammar::specs::ReadingStatements::for_parts))]
+    #[tactic(auto, unfolding(sc_grammar::proofs::Reading::bind, sc_grammar::proofs::Reading::pure, sc_grammar::proofs::Reading::maybe, sc_grammar::proofs::Reading::takes_if, sc_grammar::proofs::ReadingStatements::for_parts))]
     fn for_parts(&mut self, levels: usize) -> Result<Parts, Refused>
         ensures moves { Gives plain_parts result self.old self.new (statements.for_parts (expressions.assigned levels)) }
     {
@@ -252,7 +252,7 @@ impl Reader<'_> {
     }
 
     /// The refusal of a statement that is too deep.
-    #[tactic(auto, unfolding(sc_grammar::specs::Reading::bind, sc_grammar::specs::Reading::pure, sc_grammar::specs::Reading::maybe, sc_grammar::specs::Reading::takes_if, sc_grammar::specs::Reading::next_is, sc_grammar::specs::Reading::too_deep, sc_grammar::specs::Reading::fail))]
+    #[tactic(auto, unfolding(sc_grammar::proofs::Reading::bind, sc_grammar::proofs::Reading::pure, sc_grammar::proofs::Reading::maybe, sc_grammar::proofs::Reading::takes_if, sc_grammar::proofs::Reading::next_is, sc_grammar::proofs::Reading::too_deep, sc_grammar::proofs::Reading::fail))]
     fn no_deeper_statement(&self) -> Refused
         ensures { Fails {A = Statement} result (reading.no_deeper statements.begins_statement self.now.tokens.now self.now.next) }
     {
@@ -264,7 +264,7 @@ impl Reader<'_> {
     }
 
     #[cycle(statement)]
-    #[tactic(auto, using(sc_tree::proofs::ViewStmtLaws::statement_views), unfolding(sc_grammar::specs::Reading::bind, sc_grammar::specs::Reading::pure, sc_grammar::specs::Reading::maybe, sc_grammar::specs::Reading::takes_if, sc_grammar::specs::ReadingStatements::statement, sc_grammar::specs::ReadingStatements::statement_by, sc_grammar::specs::Reading::here))]
+    #[tactic(auto, using(sc_tree::proofs::ViewStmtLaws::statement_views), unfolding(sc_grammar::proofs::Reading::bind, sc_grammar::proofs::Reading::pure, sc_grammar::proofs::Reading::maybe, sc_grammar::proofs::Reading::takes_if, sc_grammar::proofs::ReadingStatements::statement, sc_grammar::proofs::ReadingStatements::statement_by, sc_grammar::proofs::Reading::here))]
     fn statement(&mut self, levels: usize) -> Result<Stmt, Refused>
         ensures moves { Gives plain_stmt result self.old self.new (statements.statement levels) }
     {
@@ -288,7 +288,7 @@ impl Reader<'_> {
 
     /// The locals and statements of a block, and its last brace.
     #[cycle(statement)]
-    #[tactic(auto, using(sc_grammar::proofs::ManyLaws::turns), unfolding(sc_grammar::specs::Reading::bind, sc_grammar::specs::Reading::pure, sc_grammar::specs::Reading::maybe, sc_grammar::specs::Reading::takes_if, sc_grammar::specs::ReadingStatements::block_after, sc_grammar::specs::Reading::many))]
+    #[tactic(auto, using(sc_grammar::proofs::ManyLaws::turns), unfolding(sc_grammar::proofs::Reading::bind, sc_grammar::proofs::Reading::pure, sc_grammar::proofs::Reading::maybe, sc_grammar::proofs::Reading::takes_if, sc_grammar::proofs::ReadingStatements::block_after, sc_grammar::proofs::Reading::many))]
     pub fn block_after(&mut self, levels: usize) -> Result<Block, Refused>
         ensures moves { Gives (map plain_stmt) result self.old self.new (statements.block_after (expressions.assigned levels) (statements.statement levels)) }
     {
@@ -304,7 +304,7 @@ impl Reader<'_> {
     }
 
     #[cycle(statement)]
-    #[tactic(auto, unfolding(sc_grammar::specs::Reading::bind, sc_grammar::specs::Reading::pure, sc_grammar::specs::Reading::maybe, sc_grammar::specs::Reading::takes_if, sc_grammar::specs::ReadingStatements::one_part, sc_grammar::specs::Reading::next_is))]
+    #[tactic(auto, unfolding(sc_grammar::proofs::Reading::bind, sc_grammar::proofs::Reading::pure, sc_grammar::proofs::Reading::maybe, sc_grammar::proofs::Reading::takes_if, sc_grammar::proofs::ReadingStatements::one_part, sc_grammar::proofs::Reading::next_is))]
     fn one_part(&mut self, levels: usize) -> Result<Option<Stmt>, Refused>
         ensures moves { Gives (option_map plain_stmt) result self.old self.new (statements.one_part (expressions.assigned levels) (statements.statement levels)) }
     {
@@ -330,7 +330,7 @@ impl Reader<'_> {
 
     /// The test behind an `if`, and the statement that it guards.
     #[cycle(statement)]
-    #[tactic(auto, using(sc_tree::proofs::ViewStmtLaws::statement_views), unfolding(sc_grammar::specs::Reading::bind, sc_grammar::specs::Reading::pure, sc_grammar::specs::Reading::maybe, sc_grammar::specs::Reading::takes_if, sc_grammar::specs::ReadingStatements::arm_after))]
+    #[tactic(auto, using(sc_tree::proofs::ViewStmtLaws::statement_views), unfolding(sc_grammar::proofs::Reading::bind, sc_grammar::proofs::Reading::pure, sc_grammar::proofs::Reading::maybe, sc_grammar::proofs::Reading::takes_if, sc_grammar::proofs::ReadingStatements::arm_after))]
     fn arm_after(&mut self, levels: usize) -> Result<Arm, Refused>
         ensures moves { Gives plain_arm result self.old self.new (statements.arm_after (expressions.assigned levels) (statements.statement levels)) }
     {
@@ -340,7 +340,7 @@ impl Reader<'_> {
     }
 
     #[cycle(statement)]
-    #[tactic(auto, using(sc_tree::proofs::ViewStmtLaws::statement_views, sc_grammar::proofs::ElsesLaws::elses_turns), unfolding(sc_grammar::specs::Reading::bind, sc_grammar::specs::Reading::pure, sc_grammar::specs::Reading::maybe, sc_grammar::specs::Reading::takes_if, sc_grammar::specs::ReadingStatements::if_after, sc_grammar::specs::ReadingStatements::elses))]
+    #[tactic(auto, using(sc_tree::proofs::ViewStmtLaws::statement_views, sc_grammar::proofs::ElsesLaws::elses_turns), unfolding(sc_grammar::proofs::Reading::bind, sc_grammar::proofs::Reading::pure, sc_grammar::proofs::Reading::maybe, sc_grammar::proofs::Reading::takes_if, sc_grammar::proofs::ReadingStatements::if_after, sc_grammar::proofs::ReadingStatements::elses))]
     fn if_after(&mut self, levels: usize) -> Result<Stmt, Refused>
         ensures moves { Gives plain_stmt result self.old self.new (statements.if_after (expressions.assigned levels) (statements.statement levels)) }
     {
@@ -365,7 +365,7 @@ impl Reader<'_> {
     }
 
     #[cycle(statement)]
-    #[tactic(auto, using(sc_tree::proofs::ViewStmtLaws::statement_views), unfolding(sc_grammar::specs::Reading::bind, sc_grammar::specs::Reading::pure, sc_grammar::specs::Reading::maybe, sc_grammar::specs::Reading::takes_if, sc_grammar::specs::ReadingStatements::by_loop_word))]
+    #[tactic(auto, using(sc_tree::proofs::ViewStmtLaws::statement_views), unfolding(sc_grammar::proofs::Reading::bind, sc_grammar::proofs::Reading::pure, sc_grammar::proofs::Reading::maybe, sc_grammar::proofs::Reading::takes_if, sc_grammar::proofs::ReadingStatements::by_loop_word))]
     fn by_loop_word(&mut self, own: Position, levels: usize) -> Result<Stmt, Refused>
         ensures moves { Gives plain_stmt result self.old self.new (statements.by_loop_word (expressions.assigned levels) (statements.statement levels) own) }
     {
@@ -385,7 +385,7 @@ impl Reader<'_> {
     }
 
     #[cycle(statement)]
-    #[tactic(auto, using(sc_tree::proofs::ViewStmtLaws::statement_views), unfolding(sc_grammar::specs::Reading::bind, sc_grammar::specs::Reading::pure, sc_grammar::specs::Reading::maybe, sc_grammar::specs::Reading::takes_if, sc_grammar::specs::ReadingStatements::while_after))]
+    #[tactic(auto, using(sc_tree::proofs::ViewStmtLaws::statement_views), unfolding(sc_grammar::proofs::Reading::bind, sc_grammar::proofs::Reading::pure, sc_grammar::proofs::Reading::maybe, sc_grammar::proofs::Reading::takes_if, sc_grammar::proofs::ReadingStatements::while_after))]
     fn while_after(&mut self, levels: usize) -> Result<Stmt, Refused>
         ensures moves { Gives plain_stmt result self.old self.new (statements.while_after (expressions.assigned levels) (statements.statement levels)) }
     {
@@ -395,7 +395,7 @@ impl Reader<'_> {
     }
 
     #[cycle(statement)]
-    #[tactic(auto, using(sc_tree::proofs::ViewStmtLaws::statement_views), unfolding(sc_grammar::specs::Reading::bind, sc_grammar::specs::Reading::pure, sc_grammar::specs::Reading::maybe, sc_grammar::specs::Reading::takes_if, sc_grammar::specs::ReadingStatements::do_after))]
+    #[tactic(auto, using(sc_tree::proofs::ViewStmtLaws::statement_views), unfolding(sc_grammar::proofs::Reading::bind, sc_grammar::proofs::Reading::pure, sc_grammar::proofs::Reading::maybe, sc_grammar::proofs::Reading::takes_if, sc_grammar::proofs::ReadingStatements::do_after))]
     fn do_after(&mut self, levels: usize) -> Result<Stmt, Refused>
         ensures moves { Gives plain_stmt result self.old self.new (statements.do_after (expressions.assigned levels) (statements.statement levels)) }
     {
@@ -407,7 +407,7 @@ impl Reader<'_> {
     }
 
     #[cycle(statement)]
-    #[tactic(auto, using(sc_tree::proofs::ViewStmtLaws::statement_views, sc_grammar::proofs::ForLaws::for_is), unfolding(sc_grammar::specs::Reading::bind, sc_grammar::specs::Reading::pure, sc_grammar::specs::Reading::maybe, sc_grammar::specs::Reading::takes_if))]
+    #[tactic(auto, using(sc_tree::proofs::ViewStmtLaws::statement_views, sc_grammar::proofs::ForLaws::for_is), unfolding(sc_grammar::proofs::Reading::bind, sc_grammar::proofs::Reading::pure, sc_grammar::proofs::Reading::maybe, sc_grammar::proofs::Reading::takes_if))]
     fn for_after(&mut self, levels: usize) -> Result<Stmt, Refused>
         ensures moves { Gives plain_stmt result self.old self.new (statements.for_after (expressions.assigned levels) (statements.statement levels)) }
     {
@@ -423,7 +423,7 @@ impl Reader<'_> {
     }
 
     #[cycle(statement)]
-    #[tactic(auto, using(sc_tree::proofs::ViewStmtLaws::statement_views), unfolding(sc_grammar::specs::Reading::bind, sc_grammar::specs::Reading::pure, sc_grammar::specs::Reading::maybe, sc_grammar::specs::Reading::takes_if, sc_grammar::specs::ReadingStatements::for_mine_after, sc_grammar::specs::Reading::here))]
+    #[tactic(auto, using(sc_tree::proofs::ViewStmtLaws::statement_views), unfolding(sc_grammar::proofs::Reading::bind, sc_grammar::proofs::Reading::pure, sc_grammar::proofs::Reading::maybe, sc_grammar::proofs::Reading::takes_if, sc_grammar::proofs::ReadingStatements::for_mine_after, sc_grammar::proofs::Reading::here))]
     fn for_mine_after(&mut self, levels: usize) -> Result<Stmt, Refused>
         ensures moves { Gives plain_stmt result self.old self.new (statements.for_mine_after (expressions.assigned levels) (statements.statement levels)) }
     {

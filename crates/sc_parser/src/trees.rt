@@ -5,7 +5,7 @@ ghost use Rattle.sc_tree.specs.Plain as plain;
 ghost use Rattle.sc_tree.specs.View.{plain, plain_kind, plain_link, plain_tail, expressions_of, links_of, tails_of};
 ghost use Rattle.sc_grammar.specs.Marks.{prefixed};
 ghost use Rattle.sc_grammar.specs.Expressions as expressions;
-ghost use Rattle.sc_grammar.specs.ReadingExpressions as reading;
+ghost use Rattle.sc_grammar.proofs.ReadingExpressions as reading;
 ghost use Rattle.sc_grammar.specs.Statements as statements;
 
 use sc_base::{Binary, Stars, Ty, Unary};

@@ -6,14 +6,14 @@ ghost use Rattle.sc_grammar.specs.Rest.{Spelt, tokens_of};
 ghost use Rattle.sc_grammar.specs.Sentence.{Sentence, Spells, AllShallow, Shallow, Says, Accepts};
 ghost use Rattle.std.specs.Option.{option_map};
 ghost use Rattle.sc_tree.specs.ViewTree.{plain_tree};
-ghost use Rattle.sc_grammar.specs.Reading.{Fails};
+ghost use Rattle.sc_grammar.proofs.Reading.{Fails};
 ghost use Rattle.sc_parser.specs.Returned.{Gives};
-ghost use Rattle.sc_grammar.specs.ReadingItems as items;
+ghost use Rattle.sc_grammar.proofs.ReadingItems as items;
 ghost use Rattle.sc_grammar.specs.Sentence as sentence;
 ghost use Rattle.sc_parser.specs.ViewFound.{plain_found};
 ghost use Rattle.sc_parser.specs.ViewItem.{plain_item};
-ghost use Rattle.sc_grammar.specs.ReadingWhole as whole;
-ghost use Rattle.sc_grammar.specs.ReadingWhole.{ReadSorted, ReadTree};
+ghost use Rattle.sc_grammar.proofs.ReadingWhole as whole;
+ghost use Rattle.sc_grammar.proofs.ReadingWhole.{ReadSorted, ReadTree};
 
 use crate::items::Item;
 use crate::reader::Reader;
@@ -89,7 +89,7 @@ impl Found {
 /// What is read of a whole source.
 impl Reader<'_> {
     /// An item, where a token is left.
-    #[tactic(auto, unfolding(sc_grammar::specs::Reading::bind, sc_grammar::specs::Reading::pure, sc_grammar::specs::Reading::maybe, sc_grammar::specs::Reading::takes_if, sc_grammar::specs::Reading::next_is, sc_grammar::specs::ReadingItems::one_more_item))]
+    #[tactic(auto, unfolding(sc_grammar::proofs::Reading::bind, sc_grammar::proofs::Reading::pure, sc_grammar::proofs::Reading::maybe, sc_grammar::proofs::Reading::takes_if, sc_grammar::proofs::Reading::next_is, sc_grammar::proofs::ReadingItems::one_more_item))]
     fn one_more_item(&mut self) -> Result<Option<Item>, Refused>
         ensures moves { Gives (option_map plain_item) result self.old self.new (items.one_more_item DEPTH) }
     {
@@ -101,7 +101,7 @@ impl Reader<'_> {
     }
 
     /// What all the tokens declare.
-    #[tactic(auto, using(sc_grammar::proofs::WholeLaws::item_turns), unfolding(sc_grammar::specs::Reading::bind, sc_grammar::specs::Reading::pure, sc_grammar::specs::Reading::maybe, sc_grammar::specs::Reading::takes_if, sc_grammar::specs::Reading::many, sc_grammar::specs::ReadingItems::items, sc_grammar::specs::ReadingWhole::sorted_items))]
+    #[tactic(auto, using(sc_grammar::proofs::WholeLaws::item_turns), unfolding(sc_grammar::proofs::Reading::bind, sc_grammar::proofs::Reading::pure, sc_grammar::proofs::Reading::maybe, sc_grammar::proofs::Reading::takes_if, sc_grammar::proofs::Reading::many, sc_grammar::proofs::ReadingItems::items, sc_grammar::proofs::ReadingWhole::sorted_items))]
     fn all_items(&mut self) -> Result<Found, Refused>
         ensures moves { Gives plain_found result self.old self.new (whole.sorted_items DEPTH) }
     {

@@ -26,7 +26,7 @@ use Rattle.sc_typing.specs.Scope.{innermost}
 use Rattle.sc_typing.specs.Source.{Source, meaning_of, dimensions, has_its_indices}
 use Rattle.sc_typing.specs.Rules
 use Rattle.sc_typing.specs.Operators.{prefix_kept, cast_type, Gathered}
-use Rattle.sc_typing.specs.Chains.{Linked, join_kept, begin_chain, join, level_of, link_rule}
+use Rattle.sc_typing.specs.Chains.{Linked, join_kept, begin_chain, join, row_of}
 use Rattle.sc_typing.specs.Tails.{Tailing, begin_tails, pointed, stepped}
 use Rattle.sc_typing.specs.Arguments.{arguments_kept, library_kept, library_token, library_rule}
 use Rattle.sc_typing.specs.Typing.{judge, judge_tail, judge_behind}
@@ -66,7 +66,7 @@ unfoldable pub note_choice : Judgement → Judgement → Judgement → Spot → 
 note_choice test on off spot broken = note_two on off (Rules.arms_kept on.known off.known) spot.at rules.Use (note_tested test broken)
 
 unfoldable pub note_join : Option Linked → Binary → Judgement → (at : ℕ) → Noting
-note_join left op right at broken = note_one right (join_kept left op right) at (link_rule (level_of op)) broken
+note_join left op right at broken = note_one right (join_kept left op right) at (row_of op).rule broken
 
 -- an index of the object itself, or one of the pointer before it
 unfoldable pub note_index : Tailing → Judgement → (at : ℕ) → Noting

@@ -13,7 +13,7 @@ use Rattle.sc_typing.specs.declared.rule.Rule.TheVariants as rules
 use Rattle.sc_typing.specs.Known.{Judgement}
 use Rattle.sc_typing.specs.Source.{Source}
 use Rattle.sc_typing.specs.Rules
-use Rattle.sc_typing.specs.Chains.{Linked, join_kept, join, level_of, link_rule}
+use Rattle.sc_typing.specs.Chains.{Linked, join_kept, join, row_of}
 use Rattle.sc_typing.specs.Tails.{Tailing, pointed, stepped}
 use Rattle.sc_typing.specs.Typing.{judge, judge_tail}
 use Rattle.sc_typing.specs.Notes.{unless}
@@ -118,7 +118,7 @@ module _ (c : Source) (locals : List InScope) where
   abbrev pub LinkBreaks : Option Linked → Binary → Expression → (at : ℕ) → Breach → Type 0
   LinkBreaks left op e at =
       Either (Inside c locals 0 e) (OneFails (known_of c locals e) (join_kept left op (known_of c locals e)) at
-      (link_rule (level_of op)))
+      (row_of op).rule)
 
   pub data SomeLink (left : Option Linked) (rest : Links) (b : Breach) : Type 0 where
     some_link : {at_left : Option Linked} {op : Binary} {e : Expression} {at line : ℕ} →
@@ -132,9 +132,9 @@ module _ (c : Source) (locals : List InScope) where
       fro b (some_link s h) = elim s [ ]
 
   exact-join : (left : Option Linked) (op : Binary) (j : Judgement) (at : ℕ) →
-      Exact (note_join left op j at) (OneFails j (join_kept left op j) at (link_rule (level_of op)))
+      Exact (note_join left op j at) (OneFails j (join_kept left op j) at (row_of op).rule)
   unfolding note_join
-  exact-join left op j at = exact-one j (join_kept left op j) at (link_rule (level_of op))
+  exact-join left op j at = exact-one j (join_kept left op j) at (row_of op).rule
 
   pub exact-link : (left : Option Linked) (op : Binary) (e : Expression) (at line : ℕ) (more : Links) →
       ExactIn c locals 0 e →

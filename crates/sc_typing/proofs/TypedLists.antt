@@ -14,7 +14,7 @@ use Rattle.sc_typing.specs.Known.{Valued, Judgement, only, has_value}
 use Rattle.sc_typing.specs.Calls.{all_used}
 use Rattle.sc_typing.specs.Rules
 use Rattle.sc_typing.specs.Operators.{Gathered, gathered, gather}
-use Rattle.sc_typing.specs.Chains.{Linked, join_kept, join, level_of, link_rule}
+use Rattle.sc_typing.specs.Chains.{Linked, join_kept, join, row_of}
 use Rattle.sc_typing.specs.Tails.{Tailed, Tailing, with_own_index, with_index, tail_with, own_index, pointed}
 use Rattle.sc_typing.specs.Tails.{pointer_index, index_tail, with_step, kept_tail, step_of_tail, stepped, step_tail}
 use Rattle.sc_typing.specs.Typing.{judge, judge_links, judge_operands, judge_tails, judge_tail, judge_arguments}
@@ -46,9 +46,9 @@ module _ (c : Source) (locals : List InScope) where
       Either (LinkBreaks c locals left op e at) (LinksBreak (join left op (judge c locals 0 e) at line) more)
 
   exact-join : (left : Option Linked) (op : Binary) (j : Judgement) (at : ℕ) →
-      Exact (note_join left op j at) (OneFails j (join_kept left op j) at (link_rule (level_of op)))
+      Exact (note_join left op j at) (OneFails j (join_kept left op j) at (row_of op).rule)
   unfolding note_join
-  exact-join left op j at = exact-one j (join_kept left op j) at (link_rule (level_of op))
+  exact-join left op j at = exact-one j (join_kept left op j) at (row_of op).rule
 
   pub exact-links : (left : Option Linked) (rest : Links) → Exact (note_links c locals left rest) (LinksBreak left rest)
   exact-links left no_links = exact-nothing

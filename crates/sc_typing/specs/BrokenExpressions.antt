@@ -16,7 +16,7 @@ use Rattle.sc_typing.specs.Source.{Source}
 use Rattle.sc_typing.specs.Rules
 use Rattle.sc_typing.specs.NameRules
 use Rattle.sc_typing.specs.Operators.{cast_type}
-use Rattle.sc_typing.specs.Chains.{Linked, join_kept, level_of, link_rule}
+use Rattle.sc_typing.specs.Chains.{Linked, join_kept, row_of}
 use Rattle.sc_typing.specs.Tails.{Tailing, pointed, stepped}
 use Rattle.sc_typing.specs.Arguments.{arguments_kept, library_kept, library_token, library_rule}
 use Rattle.sc_typing.specs.Typing.{judge}
@@ -59,7 +59,7 @@ pub data Breaks (c : Source) (locals : List InScope) (indices : ℕ) (start at l
       {at_link line_link : ℕ} →
       IsLink c locals left (link op e at_link line_link) (begun_chain c locals first) rest →
       join_kept left op (known_of c locals e) ≡ false →
-      Breaks c locals indices start at line (chain first rest) (breach at_link (link_rule (level_of op)))
+      Breaks c locals indices start at line (chain first rest) (breach at_link (row_of op).rule)
   test_no_scalar : {kind : Kind} {e : Expression} →
       IsTested kind e →
       Rules.test_kept (known_of c locals e).known ≡ false →

@@ -1,4 +1,4 @@
-//! Chains of operands: which rule speaks of their links.
+//! The operators of chains: which rule speaks of the operands.
 
 ghost use Rattle.std.specs.Prelude.{◌≡◌};
 ghost use Rattle.sc_typing.specs.Chains as chains;
@@ -6,7 +6,7 @@ ghost use Rattle.sc_typing.specs.Chains as chains;
 use crate::rule::Rule;
 use sc_base::Binary;
 
-/// How tightly an operator binds, as far as the rules differ.
+/// How tightly an operator binds, as far as what it asks of its operands and makes of them differs.
 #[derive(Clone, Copy, Debug, PartialEq, Eq)]
 pub enum Level {
     Sums,
@@ -27,7 +27,7 @@ pub fn level_of(op: Binary) -> Level
 
 /// The rule on the operands of a link of this level.
 pub fn link_rule(level: Level) -> Rule
-    ensures { result ≡ chains.link_rule level }
+    ensures { result ≡ (chains.row_at level).rule }
 {
     match level {
         Level::Sums => Rule::Sum,

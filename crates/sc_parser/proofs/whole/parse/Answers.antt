@@ -1,6 +1,6 @@
 use Rattle.std.proofs.Common.{◌≡◌, subst, sym, arith, ℕ}
-use Rattle.sc_grammar.specs.Reading.{syntax, deep, refused, Fails}
-use Rattle.sc_grammar.specs.ReadingItems.{items}
+use Rattle.sc_grammar.proofs.Reading.{syntax, deep, refused, Fails}
+use Rattle.sc_grammar.proofs.ReadingItems.{items}
 use Rattle.sc_grammar.specs.declared.error.Refused.{Refused}
 use Rattle.sc_grammar.specs.declared.error.Refused.TheVariants as kind
 use Rattle.sc_parser.specs.declared.whole.TheConstants.{DEPTH}

@@ -1,6 +1,6 @@
 use Rattle.std.proofs.Common.{◌≡◌, ◌+◌, ◌-◌, ◌*◌}
-use Rattle.sc_grammar.specs.Reading.{many_by}
-use Rattle.sc_grammar.specs.ReadingItems.{bound, sum, product, one_summand, one_factor}
+use Rattle.sc_grammar.proofs.Reading.{many_by}
+use Rattle.sc_grammar.proofs.ReadingItems.{bound, sum, product, one_summand, one_factor}
 use Rattle.sc_grammar.proofs.StepsLaws.{with_steps}
 use Rattle.sc_parser.proofs.reader.Reader.+bound.Given as goal
 

@@ -1,7 +1,7 @@
 use Rattle.std.proofs.Common.{◌≡◌, ◌+◌, ◌-◌, ◌*◌, map}
 use Rattle.sc_tree.specs.View.{plain, plain_link, plain_tail}
-use Rattle.sc_grammar.specs.Reading.{many, many_by, with_front}
-use Rattle.sc_grammar.specs.ReadingExpressions.{assigned, unary, level_by, one_link, one_operand, one_tail, one_more_argument, arguments}
+use Rattle.sc_grammar.proofs.Reading.{many, many_by, with_front}
+use Rattle.sc_grammar.proofs.ReadingExpressions.{assigned, unary, level_by, one_link, one_operand, one_tail, one_more_argument, arguments}
 use Rattle.sc_parser.proofs.reader.Reader.+expression.Given as goal
 
 abbrev pub decreases-assigned : goal.decreases-assigned

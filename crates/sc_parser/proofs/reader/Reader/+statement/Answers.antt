@@ -1,5 +1,5 @@
 use Rattle.sc_tree.specs.ViewStmt.{plain_stmt}
-use Rattle.sc_grammar.specs.ReadingStatements.{statement_by}
+use Rattle.sc_grammar.proofs.ReadingStatements.{statement_by}
 use Rattle.sc_parser.proofs.ArmsEnd.{moves_at_end, moves_at_stop}
 use Rattle.sc_parser.proofs.ReadingSteps.{gives_then, here_moves}
 use Rattle.sc_parser.proofs.StatementLaws.{gives_statement}

@@ -1,9 +1,9 @@
 use Rattle.std.proofs.Common.{◌≡◌, ◌+◌, ◌-◌, ◌*◌, map}
 use Rattle.sc_tree.specs.ViewStmt.{plain_stmt, plain_arm}
 use Rattle.sc_tree.specs.declared.token.Mark.TheVariants as marks
-use Rattle.sc_grammar.specs.Reading.{got, and_then, mark, many_by, with_front}
-use Rattle.sc_grammar.specs.ReadingExpressions.{assigned}
-use Rattle.sc_grammar.specs.ReadingStatements.{statement, block_after, one_part, if_after, elses_by}
+use Rattle.sc_grammar.proofs.Reading.{got, and_then, mark, many_by, with_front}
+use Rattle.sc_grammar.proofs.ReadingExpressions.{assigned}
+use Rattle.sc_grammar.proofs.ReadingStatements.{statement, block_after, one_part, if_after, elses_by}
 use Rattle.sc_grammar.proofs.ElsesLaws.{with_arms, if_all}
 use Rattle.sc_parser.proofs.reader.Reader.+statement.Given as goal
 

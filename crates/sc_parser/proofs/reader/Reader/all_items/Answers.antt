@@ -1,8 +1,8 @@
 use Rattle.std.proofs.Common.{ap, ◌∙◌, arith}
 use Rattle.std.specs.Option.{option_map}
 use Rattle.sc_parser.specs.declared.whole.TheConstants.{DEPTH}
-use Rattle.sc_grammar.specs.Reading.{got}
-use Rattle.sc_grammar.specs.ReadingItems.{one_more_item}
+use Rattle.sc_grammar.proofs.Reading.{got}
+use Rattle.sc_grammar.proofs.ReadingItems.{one_more_item}
 use Rattle.sc_parser.specs.ViewFound.{plain_found}
 use Rattle.sc_parser.specs.ViewItem.{plain_item}
 use Rattle.sc_grammar.proofs.WholeLaws.{items_found}

@@ -1,8 +1,8 @@
 use Rattle.std.proofs.Common.{◌≡◌, ◌-◌}
 use Rattle.sc_parser.specs.declared.whole.TheConstants.{DEPTH}
-use Rattle.sc_grammar.specs.Reading.{many_by}
-use Rattle.sc_grammar.specs.ReadingItems.{one_more_item}
-use Rattle.sc_grammar.specs.ReadingWhole.{sorted_items}
+use Rattle.sc_grammar.proofs.Reading.{many_by}
+use Rattle.sc_grammar.proofs.ReadingItems.{one_more_item}
+use Rattle.sc_grammar.proofs.ReadingWhole.{sorted_items}
 use Rattle.sc_parser.specs.ViewFound.{plain_found}
 use Rattle.sc_grammar.proofs.WholeLaws.{with_sorted}
 use Rattle.sc_parser.proofs.reader.Reader.all_items.Given as goal

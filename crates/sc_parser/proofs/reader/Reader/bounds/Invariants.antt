@@ -1,6 +1,6 @@
 use Rattle.std.proofs.Common.{◌≡◌, ◌-◌}
-use Rattle.sc_grammar.specs.Reading.{many, many_by, with_front}
-use Rattle.sc_grammar.specs.ReadingItems.{one_bound}
+use Rattle.sc_grammar.proofs.Reading.{many, many_by, with_front}
+use Rattle.sc_grammar.proofs.ReadingItems.{one_bound}
 use Rattle.sc_parser.proofs.reader.Reader.bounds.Given as goal
 
 abbrev pub invariant-loop-turn : goal.invariant-loop-turn

@@ -2,9 +2,9 @@ use Rattle.std.proofs.Common.{◌≡◌, ◌-◌, map}
 use Rattle.sc_tree.specs.ViewStmt.{declared}
 use Rattle.sc_tree.specs.PlainStmt.{declare}
 use Rattle.sc_tree.specs.declared.token.Mark.TheVariants as marks
-use Rattle.sc_grammar.specs.Reading.{got, and_then, mark, many_by, with_front}
-use Rattle.sc_grammar.specs.ReadingExpressions.{assigned}
-use Rattle.sc_grammar.specs.ReadingStatements.{locals, one_more_local}
+use Rattle.sc_grammar.proofs.Reading.{got, and_then, mark, many_by, with_front}
+use Rattle.sc_grammar.proofs.ReadingExpressions.{assigned}
+use Rattle.sc_grammar.proofs.ReadingStatements.{locals, one_more_local}
 use Rattle.sc_parser.proofs.reader.Reader.locals.Given as goal
 
 abbrev pub invariant-loop-turn : goal.invariant-loop-turn

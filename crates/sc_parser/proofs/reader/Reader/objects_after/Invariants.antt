@@ -1,8 +1,8 @@
 use Rattle.std.proofs.Common.{◌≡◌, ◌-◌}
 use Rattle.sc_tree.specs.declared.token.Mark.TheVariants as marks
 use Rattle.sc_grammar.specs.Items.{objects}
-use Rattle.sc_grammar.specs.Reading.{got, and_then, mark, many_by, with_front}
-use Rattle.sc_grammar.specs.ReadingItems.{objects_after, one_more_declarator}
+use Rattle.sc_grammar.proofs.Reading.{got, and_then, mark, many_by, with_front}
+use Rattle.sc_grammar.proofs.ReadingItems.{objects_after, one_more_declarator}
 use Rattle.sc_parser.proofs.reader.Reader.objects_after.Given as goal
 
 abbrev pub invariant-loop-turn : goal.invariant-loop-turn

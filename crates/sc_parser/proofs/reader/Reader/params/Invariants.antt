@@ -1,6 +1,6 @@
 use Rattle.std.proofs.Common.{◌≡◌, ◌-◌}
-use Rattle.sc_grammar.specs.Reading.{got, and_then, many_by, with_front}
-use Rattle.sc_grammar.specs.ReadingItems.{params, one_more_param}
+use Rattle.sc_grammar.proofs.Reading.{got, and_then, many_by, with_front}
+use Rattle.sc_grammar.proofs.ReadingItems.{params, one_more_param}
 use Rattle.sc_parser.proofs.reader.Reader.params.Given as goal
 
 abbrev pub invariant-loop-turn : goal.invariant-loop-turn

@@ -1,6 +1,6 @@
 use Rattle.std.proofs.Common.{◌≡◌, ◌∙◌, ap, sym, None}
-use Rattle.sc_grammar.specs.Reading.{got}
-use Rattle.sc_grammar.specs.ReadingExpressions.{one_star}
+use Rattle.sc_grammar.proofs.Reading.{got}
+use Rattle.sc_grammar.proofs.ReadingExpressions.{one_star}
 use Rattle.sc_grammar.proofs.ManyLaws.{many_stop}
 use Rattle.sc_parser.proofs.reader.Reader.stars.Goals as goal
 

@@ -1,6 +1,6 @@
 use Rattle.std.proofs.Common.{◌≡◌, ◌-◌}
-use Rattle.sc_grammar.specs.Reading.{many_by, with_front}
-use Rattle.sc_grammar.specs.ReadingExpressions.{stars, one_star}
+use Rattle.sc_grammar.proofs.Reading.{many_by, with_front}
+use Rattle.sc_grammar.proofs.ReadingExpressions.{stars, one_star}
 use Rattle.sc_parser.proofs.reader.Reader.stars.Given as goal
 
 abbrev pub invariant-loop-turn : goal.invariant-loop-turn

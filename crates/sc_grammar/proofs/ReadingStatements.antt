@@ -11,8 +11,8 @@ use Rattle.sc_tree.specs.PlainStmt.{Declared, Statement, block, empty, declare, 
 use Rattle.sc_tree.specs.ViewStmt.{statements_of, arms_of}
 use Rattle.sc_grammar.specs.declared.position.Position.{Position}
 use Rattle.sc_grammar.specs.Statements.{int_with}
-use Rattle.sc_grammar.specs.Reading.{Parser, ◌>>=◌, pure, fail, here, is_mark, other_than, is_word, mark, word, a_name, if_taken, if_next, many, no_deeper}
-use Rattle.sc_grammar.specs.ReadingExpressions.{begins_expression, begins_mark, begins_word, stars, assigned}
+use Rattle.sc_grammar.proofs.Reading.{Parser, ◌>>=◌, pure, fail, here, is_mark, other_than, is_word, mark, word, a_name, if_taken, if_next, many, no_deeper}
+use Rattle.sc_grammar.proofs.ReadingExpressions.{begins_expression, begins_mark, begins_word, stars, assigned}
 
 -- ---- tokens
 

@@ -5,8 +5,8 @@ use Rattle.sc_tree.specs.declared.token.Token.{Token}
 use Rattle.sc_tree.specs.PlainTree.{PlainFunction, PlainTree}
 use Rattle.sc_grammar.specs.Items.{Item}
 use Rattle.sc_grammar.specs.Sentence.{objects_in, functions_in, tree_of}
-use Rattle.sc_grammar.specs.Reading.{Parser, ◌>>=◌, pure, got}
-use Rattle.sc_grammar.specs.ReadingItems.{items}
+use Rattle.sc_grammar.proofs.Reading.{Parser, ◌>>=◌, pure, got}
+use Rattle.sc_grammar.proofs.ReadingItems.{items}
 
 pub record Sorted : Type 0 where
   pub objects : List Shape

@@ -17,7 +17,7 @@ use Rattle.sc_grammar.specs.declared.operators.Prefix.{Prefix}
 use Rattle.sc_grammar.specs.declared.position.Position.{Position}
 use Rattle.sc_grammar.specs.Marks.{operator_of, assigning_of, prefix_of, prefixed}
 use Rattle.sc_grammar.specs.Expressions.{around, chained, listed, tailed}
-use Rattle.sc_grammar.specs.Reading.{Parser, ◌>>=◌, pure, fail, here, too_deep, is_mark, is_word, mark, word, mark_by, if_taken, if_next, if_given, many, no_deeper, is_given}
+use Rattle.sc_grammar.proofs.Reading.{Parser, ◌>>=◌, pure, fail, here, too_deep, is_mark, is_word, mark, word, mark_by, if_taken, if_next, if_given, many, no_deeper, is_given}
 
 -- ---- tokens
 
@@ -148,7 +148,7 @@ by_word p =
 unfoldable pub plain_primary : Parser Expression → Position → Parser Expression
 plain_primary value p =
     if_given number_in (λ n. pure (placed_at p (number n))) (
-    if_given Rattle.sc_grammar.specs.Reading.name_in (λ x. after_name value p x) (by_word p))
+    if_given Rattle.sc_grammar.proofs.Reading.name_in (λ x. after_name value p x) (by_word p))
 
 -- ---- unary expressions, over how one of the next depth is read, if there may be any
 

@@ -16,9 +16,9 @@ use Rattle.sc_tree.specs.ViewStmt.{statements_of}
 use Rattle.sc_grammar.specs.declared.position.Position.{Position}
 use Rattle.sc_grammar.specs.Statements.{int_with}
 use Rattle.sc_grammar.specs.Items.{Item, objects, function}
-use Rattle.sc_grammar.specs.Reading.{Parser, ◌>>=◌, pure, fail, here, is_mark, is_word, mark, word, maybe, a_name, name_in, if_taken, if_next, if_given, many, no_deeper}
-use Rattle.sc_grammar.specs.ReadingExpressions.{stars, assigned, number_in, arithmetic_in}
-use Rattle.sc_grammar.specs.ReadingStatements.{block_after, statement}
+use Rattle.sc_grammar.proofs.Reading.{Parser, ◌>>=◌, pure, fail, here, is_mark, is_word, mark, word, maybe, a_name, name_in, if_taken, if_next, if_given, many, no_deeper}
+use Rattle.sc_grammar.proofs.ReadingExpressions.{stars, assigned, number_in, arithmetic_in}
+use Rattle.sc_grammar.proofs.ReadingStatements.{block_after, statement}
 
 -- ---- bounds
 
