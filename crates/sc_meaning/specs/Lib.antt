@@ -11,3 +11,4 @@ pub mod Below
 pub mod Test
 pub mod CompleteTest
 pub mod Source
+pub mod OfAccess

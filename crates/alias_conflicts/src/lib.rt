@@ -1,0 +1,2 @@
+//! Which sites of a source may reach the same cells.
+#![tactic(auto)]

@@ -1,0 +1,2 @@
+//! Which accesses of one node must not overlap.
+#![tactic(auto)]

@@ -1,0 +1,7 @@
+mod Parts
+mod ExampleBranch
+mod ExampleCalls
+mod ExampleLoops
+mod ExampleTransfers
+mod ExampleForms
+mod ExampleWalks

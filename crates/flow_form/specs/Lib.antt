@@ -1,0 +1,12 @@
+pub mod Within
+pub mod Accesses
+pub mod Written
+pub mod Forms
+pub mod Occurring
+pub mod Steps
+pub mod Exits
+pub mod Expressions
+pub mod Statements
+pub mod FlowOf
+pub mod Walk
+pub mod Laws

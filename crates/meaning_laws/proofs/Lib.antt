@@ -1,0 +1,17 @@
+pub mod Decided
+pub mod Requests
+pub mod Which
+pub mod Exact
+pub mod CompleteExact
+pub mod Fronts
+pub mod ByTest
+pub mod WholeExamples
+pub mod Refused
+pub mod Shallow
+pub mod Stretch
+pub mod Closure
+pub mod PointsForgotten
+pub mod Budgeted
+pub mod Framed
+pub mod Instructions
+pub mod Cuts

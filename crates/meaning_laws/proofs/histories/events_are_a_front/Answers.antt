@@ -1,0 +1,5 @@
+use Rattle.meaning_laws.proofs.Fronts.{events_are_a_front}
+use Rattle.meaning_laws.proofs.histories.events_are_a_front.Goals as goal
+
+pub returns : goal.returns
+returns c = events_are_a_front

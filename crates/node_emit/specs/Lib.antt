@@ -1,0 +1,13 @@
+pub mod Runs
+pub mod Widths
+pub mod Expressions
+pub mod Statements
+pub mod Sources
+pub mod Kinds
+pub mod Spelled
+pub mod Stands
+pub mod Pointed
+pub mod Walks
+pub mod Carries
+pub mod Oracles
+pub mod Law

@@ -1,0 +1,2 @@
+//! The code of a source: its core tree in instructions, under a plan of waits.
+#![tactic(auto)]

@@ -1,0 +1,2 @@
+pub mod Uneven
+pub mod Meeting

@@ -1,0 +1,10 @@
+pub mod Members
+pub mod Broken
+pub mod Flown
+pub mod Stepped
+pub mod Allowed
+pub mod Picked
+pub mod Orderly
+pub mod Journal
+pub mod Complete
+pub mod Calm

@@ -1,0 +1,15 @@
+//! The flow of a source, as the analysis sees it: the points of its evaluation with their edges, its accesses, and
+//! which points are reached from which; and rows of bits, in which relations between points or sites are kept.
+#![tactic(auto)]
+
+pub mod bit_rows;
+pub mod flow;
+pub mod plan;
+pub mod point;
+pub mod site;
+
+pub use bit_rows::BitRows;
+pub use flow::{Edge, Edges, Flow, ObjectList};
+pub use plan::{Conflicts, Phases, Plan, WaitRows};
+pub use point::{LocalList, NODE_MARK, Point, PointKind, Points};
+pub use site::{Form, IndexForm, Site, SiteKind, SiteList, Sites};

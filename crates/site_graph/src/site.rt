@@ -1,0 +1,57 @@
+//! The accesses of a source, and which cells each of them may reach as far as its text tells.
+
+use sc_base::CopyMode;
+use sqlite_items::Items;
+
+/// How a site accesses cells.
+#[derive(Clone, Copy, Debug, PartialEq, Eq)]
+pub enum SiteKind {
+    Read,
+    Write,
+    Get,
+    Put,
+    Store,
+    Copy(CopyMode),
+}
+
+/// What is known of the index of an element of a spread array with one dimension, on the node `MYPROC` of `PROCS`.
+#[derive(Clone, Copy, Debug, PartialEq, Eq)]
+pub enum IndexForm {
+    /// It is `k * MYPROC + c`.
+    Linear { k: i64, c: i64 },
+    /// It is the remainder of `k * MYPROC + c` divided by `PROCS`, from 0 to `PROCS - 1`.
+    Wrapped { k: i64, c: i64 },
+    /// It leaves the same remainder as `MYPROC + c` when it is divided by `PROCS`.
+    Mine { c: i64 },
+    Any,
+}
+
+/// Which cells an access may reach. Objects are counted from 0.
+#[derive(Clone, Copy, Debug, PartialEq, Eq)]
+pub enum Form {
+    /// Elements of a spread object, which stands with all its indices.
+    Element { object: u32, index: IndexForm },
+    /// The executing node's own cells of an ordinary object, which stands with all its indices.
+    Own { object: u32 },
+    /// The executing node's own cells of the exposed objects: a use of a local pointer.
+    OwnExposed,
+    /// All nodes' cells of the exposed objects: a use of a global or spread pointer.
+    Exposed,
+}
+
+/// An access of the source. `line` is the line that its requests have, `reads` and `writes` say which cells it may
+/// read and write, and `fills` is the local that a filling read sets.
+#[derive(Clone, Copy, Debug, PartialEq, Eq)]
+pub struct Site {
+    pub kind: SiteKind,
+    pub line: u32,
+    pub reads: Option<Form>,
+    pub writes: Option<Form>,
+    pub fills: Option<u32>,
+}
+
+/// The sites by number, which is counted from 1; seen as a list.
+pub type Sites = Items<Site>;
+
+/// Numbers of sites, seen as a list.
+pub type SiteList = Items<u32>;
