@@ -159,8 +159,5 @@ fn lowered(alloc: Global, typed: &Typed) -> Result<CoreProgram, AllocError>
 pub fn lower(alloc: Global, typed: &Typed) -> Result<CoreProgram, OutOfMemory>
     ensures { IfOk result (λ program. plain_program program ≡ lowering.core_of (plain_typed_tree typed.now)) }
 {
-    match lowered(alloc, typed) {
-        Ok(program) => Ok(program),
-        Err(_) => Err(OutOfMemory),
-    }
+    lowered(alloc, typed).map_err(|_| OutOfMemory)
 }
