@@ -8,7 +8,9 @@ ghost use Rattle.sc_layout.specs.Place.{IsPlace};
 ghost use Rattle.fabric.specs.State.{IsAccess, IsTrack};
 
 use crate::{Fabric, Passed, Waited};
-use sc_base::{Bound, BoundStep, BoundSteps, Bounds, End, OutOfMemory, Place, Shape, Stars, Ty, Value};
+use sc_base::{
+    Bound, BoundStep, BoundSteps, Bounds, End, OutOfMemory, Place, Shape, Stars, Ty, Value,
+};
 use sc_isa::{Access, Landed, Track};
 use sc_layout::{Layout, layout};
 use std::alloc::{AllocError, Global};
@@ -188,7 +190,10 @@ impl Board {
         match self.fabric.try_wait(node, counter, &mut into) {
             Waited::NotYet { outstanding } => Answer::Outstanding(outstanding),
             Waited::Landed => {
-                Answer::Landed(into.values().first().copied(), into.values().last().copied())
+                Answer::Landed(
+                    into.values().first().copied(),
+                    into.values().last().copied(),
+                )
             }
         }
     }
@@ -350,7 +355,10 @@ fn a_copy_moves_its_cells_wherever_they_lie(rt: HostRuntime) -> Result<(), Fail>
         (Move::Issue(0, write(0, 0, 1, ON_0)), Answer::Sent(0)),
         (Move::Issue(0, write(0, 1, 2, ON_0)), Answer::Sent(0)),
         // Both ends elsewhere: two reads, and their writes in the order in which the reads were delivered.
-        (Move::Issue(1, copy(cell(0, 0), cell(2, 0), 2)), Answer::Sent(2)),
+        (
+            Move::Issue(1, copy(cell(0, 0), cell(2, 0), 2)),
+            Answer::Sent(2),
+        ),
         (Move::Deliver(1), brought(2)),
         (Move::Deliver(0), brought(1)),
         (Move::Wait(1, 1), Answer::Outstanding(2)),
@@ -358,17 +366,26 @@ fn a_copy_moves_its_cells_wherever_they_lie(rt: HostRuntime) -> Result<(), Fail>
         (Move::Deliver(0), brought(2)),
         (Move::Wait(1, 1), Answer::Landed(None, None)),
         // From the node itself: read with the issue, so the write after it does not count.
-        (Move::Issue(0, copy(cell(0, 0), cell(1, 0), 1)), Answer::Sent(1)),
+        (
+            Move::Issue(0, copy(cell(0, 0), cell(1, 0), 1)),
+            Answer::Sent(1),
+        ),
         (Move::Issue(0, write(0, 0, 9, ON_0)), Answer::Sent(0)),
         (Move::Deliver(0), brought(1)),
         // To the node itself: read at the delivery, so the write before it counts.
-        (Move::Issue(2, copy(cell(0, 0), cell(2, 2), 1)), Answer::Sent(1)),
+        (
+            Move::Issue(2, copy(cell(0, 0), cell(2, 2), 1)),
+            Answer::Sent(1),
+        ),
         (Move::Issue(0, write(0, 0, 8, ON_0)), Answer::Sent(0)),
         (Move::Deliver(0), brought(8)),
         (Move::Issue(0, write(0, 0, 7, ON_0)), Answer::Sent(0)),
         (Move::Deliver(0), brought(8)),
         // Onto itself, on the node: each cell's write follows its read, so the first value goes on.
-        (Move::Issue(0, copy(cell(0, 0), cell(0, 1), 3)), Answer::Sent(0)),
+        (
+            Move::Issue(0, copy(cell(0, 0), cell(0, 1), 3)),
+            Answer::Sent(0),
+        ),
         (Move::Deliver(0), Answer::Refused),
         // What the cells hold then.
         (Move::Issue(1, read(2, 0, ON_0)), Answer::Sent(1)),
@@ -399,7 +416,10 @@ fn a_barrier_is_passed_when_all_stand_there(rt: HostRuntime) -> Result<(), Fail>
     let flying = |missing, flying| Answer::Passed(Passed::NotYet { missing, flying });
     let steps = [
         // A store that no arrival waits for.
-        (Move::Issue(0, write(1, 0, 5, Track::Store)), Answer::Sent(1)),
+        (
+            Move::Issue(0, write(1, 0, 5, Track::Store)),
+            Answer::Sent(1),
+        ),
         (Move::Arrive(0, false), Answer::Done),
         (Move::Pass(0), flying(1, 0)),
         (Move::Issue(0, write(0, 0, 5, ON_0)), Answer::Refused),
@@ -416,7 +436,10 @@ fn a_barrier_is_passed_when_all_stand_there(rt: HostRuntime) -> Result<(), Fail>
         (Move::Pass(0), yes),
         (Move::Pass(1), yes),
         // Covered cells are waited for by each barrier.
-        (Move::Issue(1, write(0, 0, 6, Track::Covered)), Answer::Sent(1)),
+        (
+            Move::Issue(1, write(0, 0, 6, Track::Covered)),
+            Answer::Sent(1),
+        ),
         (Move::Arrive(0, false), Answer::Done),
         (Move::Arrive(1, false), Answer::Done),
         (Move::Pass(1), flying(0, 1)),
@@ -443,8 +466,14 @@ fn sixteen_nodes_write_around_a_ring(rt: HostRuntime) -> Result<(), Fail> {
     };
     for node in 0..16u32 {
         let access = write((node + 1) % 16, 0, i64::from(node), Track::Store);
-        assert_eq!(rt; board.play(rt.alloc(), Move::Issue(node, access)), Answer::Sent(1));
-        assert_eq!(rt; board.play(rt.alloc(), Move::Arrive(node, true)), Answer::Done);
+        assert_eq!(rt;
+            board.play(rt.alloc(), Move::Issue(node, access)),
+            Answer::Sent(1)
+        );
+        assert_eq!(rt;
+            board.play(rt.alloc(), Move::Arrive(node, true)),
+            Answer::Done
+        );
     }
     for node in 0..16u32 {
         let last = u64::from(15 - node);
@@ -453,14 +482,26 @@ fn sixteen_nodes_write_around_a_ring(rt: HostRuntime) -> Result<(), Fail> {
             flying: last + 1,
         });
         assert_eq!(rt; board.play(rt.alloc(), Move::Pass(node)), missing);
-        assert_eq!(rt; board.play(rt.alloc(), Move::Deliver(last)), brought(last as i64));
+        assert_eq!(rt;
+            board.play(rt.alloc(), Move::Deliver(last)),
+            brought(last as i64)
+        );
     }
     for node in 0..16u32 {
         let access = read(node, 0, ON_0);
         let before = i64::from((node + 15) % 16);
-        assert_eq!(rt; board.play(rt.alloc(), Move::Pass(node)), Answer::Passed(Passed::Yes));
-        assert_eq!(rt; board.play(rt.alloc(), Move::Issue(node, access)), Answer::Sent(0));
-        assert_eq!(rt; board.play(rt.alloc(), Move::Wait(node, 0)), landed(before, before));
+        assert_eq!(rt;
+            board.play(rt.alloc(), Move::Pass(node)),
+            Answer::Passed(Passed::Yes)
+        );
+        assert_eq!(rt;
+            board.play(rt.alloc(), Move::Issue(node, access)),
+            Answer::Sent(0)
+        );
+        assert_eq!(rt;
+            board.play(rt.alloc(), Move::Wait(node, 0)),
+            landed(before, before)
+        );
     }
     Ok(())
 }

@@ -1,4 +1,4 @@
-use Rattle.std.proofs.Common.{◌≡◌, ◌∙◌, ◌∷◌, refl, ap}
+use Rattle.std.proofs.Common.{◌∙◌, ◌∷◌, refl, ap}
 use Rattle.sc_base.specs.declared.value.End.TheVariants.{Ended}
 use Rattle.sc_isa.specs.declared.journal.Entry.TheVariants.{Finished}
 use Rattle.fabric.specs.State.{State}

@@ -1,4 +1,4 @@
-use Rattle.std.proofs.Common.{◌≡◌, ◌∙◌, ap, true}
+use Rattle.std.proofs.Common.{◌∙◌, ap, true}
 use Rattle.std.specs.Prelude.{replicate}
 use Rattle.fabric.proofs.Knowing.{knows_new}
 use Rattle.fabric.proofs.tests.Board.new.Goals as goal
