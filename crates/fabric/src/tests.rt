@@ -8,6 +8,7 @@ ghost use Rattle.sc_layout.specs.Place.{IsPlace};
 ghost use Rattle.fabric.specs.State.{IsAccess, IsTrack};
 
 use crate::{Fabric, Passed, Waited};
+use msg_pool::MsgId;
 use sc_base::{
     Bound, BoundStep, BoundSteps, Bounds, End, OutOfMemory, Place, Shape, Stars, Ty, Value,
 };
@@ -16,6 +17,7 @@ use sc_layout::{Layout, layout};
 use std::alloc::{AllocError, Global};
 use std::marker::Model;
 use std::test::Fail;
+use sync_book::Gap;
 
 /// A step of a run: of a node, or the delivery of the pending message with that number.
 #[derive(Clone, Copy, Debug, PartialEq, Eq)]
@@ -39,6 +41,16 @@ enum Answer {
     Done,
     Passed(Passed),
     Refused,
+}
+
+/// What is seen of a fabric: how many entries it has, its messages in flight, and what is missing for a release.
+#[derive(Clone, Copy, Debug, PartialEq, Eq)]
+struct Seen {
+    entries: u64,
+    pending: u64,
+    first: Option<MsgId>,
+    second: Option<MsgId>,
+    gap: Gap,
 }
 
 /// A fabric with what is known of its nodes: which run, and which stand at no barrier.
@@ -143,6 +155,26 @@ impl Board {
             running,
             away,
         })
+    }
+
+    fn seen(&self) -> Seen {
+        let pool = self.fabric.pool();
+        Seen {
+            entries: self.fabric.entries(),
+            pending: pool.count(),
+            first: pool.nth(0),
+            second: pool.nth(1),
+            gap: self.fabric.book().gap(),
+        }
+    }
+
+    /// Makes room. A refused call leaves what is seen as it was, and can be made again.
+    fn make_room(&mut self, count: u32) -> bool {
+        let before = self.seen();
+        let Err(OutOfMemory) = self.fabric.reserve(count) else {
+            return true;
+        };
+        self.seen() == before && self.fabric.reserve(count).is_ok()
     }
 
     fn issue(&mut self, node: u32, access: Access) -> Answer {
@@ -502,6 +534,28 @@ fn sixteen_nodes_write_around_a_ring(rt: HostRuntime) -> Result<(), Fail> {
             board.play(rt.alloc(), Move::Wait(node, 0)),
             landed(before, before)
         );
+    }
+    Ok(())
+}
+
+/// Each table grows each time. Where a growth is refused, the call is made again.
+#[test]
+fn a_refused_reserve_changes_nothing(rt: HostRuntime) -> Result<(), Fail> {
+    let Some(mut board) = make_board(rt.alloc(), 2)? else {
+        panic!(rt; "no layout");
+    };
+    for (room, value) in [(6u32, 1), (60, 2), (600, 3)] {
+        let issues = [write(1, 0, value, ON_0), read(1, 0, ON_0)];
+        assert!(rt; board.make_room(room), "room for {room}");
+        for access in issues {
+            assert_eq!(rt;
+                board.play(rt.alloc(), Move::Issue(0, access)),
+                Answer::Sent(1)
+            );
+        }
+    }
+    for value in [1, 1, 2, 2, 3, 3] {
+        assert_eq!(rt; board.play(rt.alloc(), Move::Deliver(0)), brought(value));
     }
     Ok(())
 }
