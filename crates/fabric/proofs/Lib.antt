@@ -25,3 +25,4 @@ pub mod Delivering
 pub mod DeliverySteps
 pub mod Beginning
 pub mod Knowing
+pub mod Pending
