@@ -12,7 +12,7 @@ use msg_pool::MsgId;
 use sc_base::{
     Bound, BoundStep, BoundSteps, Bounds, End, OutOfMemory, Place, Shape, Stars, Ty, Value,
 };
-use sc_isa::{Access, Landed, Track};
+use sc_isa::{Access, Entry, Landed, NodeResults, Track};
 use sc_layout::{Layout, layout};
 use std::alloc::{AllocError, Global};
 use std::marker::Model;
@@ -377,6 +377,34 @@ fn landed(first: i64, last: i64) -> Answer {
 }
 
 const ON_0: Track = Track::Counter(0);
+
+#[test]
+fn a_read_lands_after_its_delivery(rt: HostRuntime) -> Result<(), Fail> {
+    let Some(mut board) = make_board(rt.alloc(), 2)? else {
+        panic!(rt; "no layout");
+    };
+    let steps = [
+        (Move::Issue(0, read(1, 0, ON_0)), Answer::Sent(1)),
+        (Move::Wait(0, 0), Answer::Outstanding(1)),
+        (Move::Deliver(0), brought(0)),
+    ];
+    for (step, answer) in steps {
+        assert!(rt; board.play(rt.alloc(), step) == answer, "at {step:?}");
+        assert_eq!(rt; board.fabric.landing(0, 0), 1);
+    }
+    assert_eq!(rt; board.play(rt.alloc(), Move::Wait(0, 0)), landed(0, 0));
+    assert_eq!(rt; board.fabric.landing(0, 0), 0);
+    let run = board
+        .fabric
+        .into_run(NodeResults::from_vec(Vec::new(rt.alloc())));
+    let last = Entry::Waited {
+        node: 0,
+        counter: 0,
+    };
+    assert!(rt; run.journal.as_slice().last() == Some(&last));
+    assert_eq!(rt; run.journal.as_slice().len(), 3);
+    Ok(())
+}
 
 #[test]
 fn a_copy_moves_its_cells_wherever_they_lie(rt: HostRuntime) -> Result<(), Fail> {

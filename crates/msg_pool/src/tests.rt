@@ -50,16 +50,22 @@ fn a_taken_message_is_on_no_list(rt: HostRuntime) -> Result<(), Fail> {
     let mut pool = MsgPool::new(rt.alloc(), 2)?;
     pool.reserve(3)?;
     let first = pool.put(null_to(0, 1));
-    let second = pool.put(null_to(1, 1));
+    let second = pool.put(null_to(1, 0));
     let third = pool.put(null_to(0, 1));
-    assert_eq!(rt; pool.take(second), Some(null_to(1, 1)));
-    assert_eq!(rt; pool.take(second), None);
-    assert_eq!(rt; pool.nth(1), Some(third));
-    assert_eq!(rt; pool.nth_to(1, 1), Some(third));
-    assert_eq!(rt; pool.nth_to(1, 0), Some(first));
-    assert_eq!(rt; pool.count_of(1), 0);
-    assert_eq!(rt; pool.count_of(0), 2);
-    assert_eq!(rt; pool.count_to(1), 2);
+    let Some(taken) = pool.take(first) else {
+        panic!(rt; "not pending");
+    };
+    assert_eq!(rt; taken, null_to(0, 1));
+    assert_eq!(rt; pool.nth(0), Some(second));
+    assert_eq!(rt; pool.nth_of(0, 0), Some(third));
+    assert_eq!(rt; pool.nth_to(1, 0), Some(third));
+    assert_eq!(rt; pool.nth_of(0, 1), None);
+    assert_eq!(rt; (pool.count_of(0), pool.count_to(1)), (1, 1));
+    // The next one comes under the old key, and not under the old id.
+    let fourth = pool.put(null_to(1, 1));
+    assert_eq!(rt; fourth.key, first.key);
+    assert_eq!(rt; pool.take(first), None);
+    assert_eq!(rt; pool.take(fourth), Some(null_to(1, 1)));
     Ok(())
 }
 
