@@ -1,9 +1,9 @@
 -- What a test knows of the nodes stays through each call.
-use Rattle.std.proofs.Common.{◌≡◌, ℕ, zero, suc, ◌+◌, ◌<◌, List, [], ◌∷◌, length, Some, Bool, true, false, refl, sym, ap, ◌∙◌, subst, arith}
+use Rattle.std.proofs.Common.{◌≡◌, ℕ, zero, suc, ◌+◌, ◌<◌, List, [], ◌∷◌, length, Some, Bool, true, false, sym, ap, ◌∙◌, subst, arith}
 use Rattle.std.specs.Prelude.{if◌then◌else◌, slice_get, slice_set, replicate}
 use Rattle.std.proofs.lemmas.Bool.{eq-eqb, ne_eqb}
 use Rattle.std.proofs.lemmas.Option.{slice_get_within, get_or_from_slice_get}
-use Rattle.std.proofs.lemmas.List.{length-replicate, get_or-replicate}
+use Rattle.std.proofs.lemmas.List.{length-set, length-replicate, get_or-replicate}
 use Rattle.sc_base.specs.declared.value.Value.{Value}
 use Rattle.sc_base.specs.declared.value.End.{End}
 use Rattle.sc_layout.specs.Layout.{Arrangement}
@@ -15,6 +15,7 @@ use Rattle.fabric.specs.Wired.{Running, Going}
 use Rattle.fabric.specs.State.{State, nodes_of, start_of}
 use Rattle.fabric.specs.Kept.{IsOfJournal}
 use Rattle.fabric.specs.Known.{Knows}
+use Rattle.node_memory.proofs.Written.{get_set_other}
 use Rattle.fabric.proofs.Deciding.{decide_eq}
 use Rattle.fabric.proofs.Barrier.{stand}
 
@@ -63,24 +64,12 @@ set_own [] i v w h = cc
 set_own (x ∷ xs) zero v w h = cc
 set_own (x ∷ xs) (suc i) v w h = set_own xs i v w h
 
-set_other : (xs : List Bool) (i j : ℕ) (v : Bool) → (i ≡ j → ⊥) → slice_get (slice_set xs i v) j ≡ slice_get xs j
-set_other [] i j v ne = refl
-set_other (x ∷ xs) zero zero v ne = absurd (ne refl)
-set_other (x ∷ xs) zero (suc j) v ne = refl
-set_other (x ∷ xs) (suc i) zero v ne = refl
-set_other (x ∷ xs) (suc i) (suc j) v ne = set_other xs i j v (λ e. ne (ap suc e))
-
-length_set : (xs : List Bool) (i : ℕ) (v : Bool) → length (slice_set xs i v) ≡ length xs
-length_set [] i v = refl
-length_set (x ∷ xs) zero v = refl
-length_set (x ∷ xs) (suc i) v = ap suc (length_set xs i v)
-
 at_own : (xs ys : List Bool) (i j : ℕ) (v w : Bool) → ys ≡ slice_set xs i v → i ≡ j → slice_get ys j ≡ Some w → v ≡ w
 at_own xs ys i j v w is same h =
     set_own xs i v w (subst (λ k. slice_get (slice_set xs i v) k ≡ Some w) (sym same) (subst (λ l. slice_get l j ≡ Some w) is h))
 
 at_other : (xs ys : List Bool) (i j : ℕ) (v w : Bool) → ys ≡ slice_set xs i v → (i ≡ j → ⊥) → slice_get ys j ≡ Some w → slice_get xs j ≡ Some w
-at_other xs ys i j v w is ne h = sym (set_other xs i j v ne) ∙ subst (λ l. slice_get l j ≡ Some w) is h
+at_other xs ys i j v w is ne h = sym (get_set_other xs i j v ne) ∙ subst (λ l. slice_get l j ≡ Some w) is h
 
 pub knows_arrived : (s s' : State) (r a a' : List Bool) (l : Arrangement) (n p : ℕ) (st : Bool) → Knows s r a l n → s'.past ≡ Arrived p st ∷ s.past → arrivals p s.past ≡ passes p s.past
     → a' ≡ slice_set a p false → s'.memory.layout ≡ s.memory.layout → s'.book.sites ≡ s.book.sites → Knows s' r a' l n
@@ -135,7 +124,7 @@ knows_passed s s' r a a' l n p k j within is stood a_is layout sites = record {
 pub knows_finished : (s s' : State) (r r' a : List Bool) (l : Arrangement) (n p : ℕ) (end : End) → Knows s r a l n → s'.past ≡ Finished p end ∷ s.past
     → r' ≡ slice_set r p false → s'.memory.layout ≡ s.memory.layout → s'.book.sites ≡ s.book.sites → Knows s' r' a l n
 knows_finished s s' r r' a l n p end k is r_is layout sites = record {
-  nodes = ap length r_is ∙ length_set r p false ∙ k.nodes ∙ ap (λ (x : Arrangement). x.nodes) (sym layout);
+  nodes = ap length r_is ∙ length-set r p false ∙ k.nodes ∙ ap (λ (x : Arrangement). x.nodes) (sym layout);
   runs = λ node t.
       decide_eq p node
       (λ same. let e : false ≡ true = at_own r r' p node false true r_is same t in cc)
