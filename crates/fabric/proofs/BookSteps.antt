@@ -2,6 +2,7 @@
 use Rattle.std.proofs.Common.{◌≡◌, ℕ, zero, suc, ◌+◌, ◌<◌, ◌≤◌, max, List, [], ◌∷◌, length, map, Bool, true, ◌==◌, refl, sym, ap, ◌∙◌, subst, arith}
 use Rattle.std.specs.Prelude.{if◌then◌else◌, is_some, slice_index_or, slice_set}
 use Rattle.std.proofs.lemmas.Bool.{eq-eqb, ne_eqb, le-leb, lt-leb}
+use Rattle.std.proofs.lemmas.List.{length-set}
 use Rattle.sc_base.specs.declared.value.Value.{Value}
 use Rattle.sc_base.specs.declared.value.Place.{Place}
 use Rattle.sc_base.specs.declared.value.End.{End}
@@ -17,11 +18,6 @@ use Rattle.fabric.proofs.Deciding.{decide_eq, decide_lt}
 use Rattle.fabric.proofs.Barrier.{stand}
 
 -- ---- rows
-
-pub length_set : (rows : List NodeBook) (i : ℕ) (row : NodeBook) → length (slice_set rows i row) ≡ length rows
-length_set [] i row = refl
-length_set (x ∷ xs) zero row = refl
-length_set (x ∷ xs) (suc i) row = ap suc (length_set xs i row)
 
 set_same : (rows : List NodeBook) (i : ℕ) (row d : NodeBook) → i < length rows → slice_index_or (slice_set rows i row) i d ≡ row
 set_same [] i row d h = absurd (omega arith)
@@ -92,12 +88,12 @@ change_one : (past past' : List Entry) (book : Book) (q : ℕ) (row : NodeBook) 
     → Stands past' (with_node book q row)
 change_one past past' book q row s within own ended others = record {
   standing = λ node w.
-      let below : node < length book.nodes = subst (λ n. node < n) (length_set book.nodes q row) w in
+      let below : node < length book.nodes = subst (λ n. node < n) (length-set book.nodes q row) w in
       decide_eq q node
       (λ same. ap (λ (r : NodeBook). r.standing) (subst (λ x. node_at (with_node book q row) x ≡ row) same (at_same book q row within)) ∙ subst (λ x. row.standing ≡ standing_of x past') same own)
       (λ ne. ap (λ (r : NodeBook). r.standing) (at_other book q node row ne) ∙ s.standing node below ∙ sym (others node ne below).0);
   ended = λ node w.
-      let below : node < length book.nodes = subst (λ n. node < n) (length_set book.nodes q row) w in
+      let below : node < length book.nodes = subst (λ n. node < n) (length-set book.nodes q row) w in
       decide_eq q node
       (λ same. ap (λ (r : NodeBook). r.finished) (subst (λ x. node_at (with_node book q row) x ≡ row) same (at_same book q row within)) ∙ subst (λ x. row.finished ≡ is_some (finished x past')) same ended)
       (λ ne. ap (λ (r : NodeBook). r.finished) (at_other book q node row ne) ∙ s.ended node below ∙ sym (ap is_some (others node ne below).1));
@@ -162,7 +158,7 @@ pub releases : (start : Place → Value) (nodes : ℕ) (past : List Entry) (book
 releases start nodes past book q w count below all h =
     record {
       standing = λ node v.
-          let inside : node < length book.nodes = subst (λ n. node < n) (length_set (map released_node book.nodes) q (record (node_at (after_release book) q) { standing = Away }) ∙ length_map released_node book.nodes) v in
+          let inside : node < length book.nodes = subst (λ n. node < n) (length-set (map released_node book.nodes) q (record (node_at (after_release book) q) { standing = Away }) ∙ length_map released_node book.nodes) v in
           let inside_map : node < length (map released_node book.nodes) = subst (λ n. node < n) (sym (length_map released_node book.nodes)) inside in
           let b : node < nodes = subst (λ n. node < n) count inside in
           let s = stand start nodes past w node b in
@@ -175,7 +171,7 @@ releases start nodes past book q w count below all h =
           ∙ gone (node_at book node).standing (h.standing node inside ∙ is_waiting node past (λ e. absurd (omega (arith, e, s.passed_below))) a)
           ∙ sym (is_let_go node (Passed q ∷ past) (apart node b ne) (reached node b)));
       ended = λ node v.
-          let inside : node < length book.nodes = subst (λ n. node < n) (length_set (map released_node book.nodes) q (record (node_at (after_release book) q) { standing = Away }) ∙ length_map released_node book.nodes) v in
+          let inside : node < length book.nodes = subst (λ n. node < n) (length-set (map released_node book.nodes) q (record (node_at (after_release book) q) { standing = Away }) ∙ length_map released_node book.nodes) v in
           let inside_map : node < length (map released_node book.nodes) = subst (λ n. node < n) (sym (length_map released_node book.nodes)) inside in
           decide_eq q node
           (λ same. ap (λ (r : NodeBook). r.finished) (subst (λ x. node_at (with_node (after_release book) q (record (node_at (after_release book) q) { standing = Away })) x ≡ record (node_at (after_release book) q) { standing = Away }) same

@@ -12,7 +12,7 @@ use Rattle.node_memory.specs.Memory.{Memory}
 use Rattle.fabric.specs.Access.{transfer_of, track_of}
 use Rattle.fabric.specs.Effects.{due, cell_at_issue, at_issue}
 use Rattle.fabric.specs.Flight.{carried, sent}
-use Rattle.fabric.specs.State.{messages_of}
+use Rattle.fabric.specs.State.{Grows, messages_of}
 use Rattle.fabric.specs.Issuing.{Untouched, Unissued, HoldsAfter, CellIssued, CellsIssued, AtMost}
 use Rattle.fabric.proofs.Parts.{SameParts, carried_same, same_refl, same_trans}
 use Rattle.fabric.proofs.Keys.{cell_keeps, due_same}
@@ -78,6 +78,12 @@ one_more was is now count a b = record {
   nodes = b.nodes ∙ a.nodes;
   few = omega (arith, a.few, b.few);
   grown = omega (arith, a.grown, b.grown);
+}
+
+pub grows_on : (was is now : Pool) → Grows was is → Grows is now → Grows was now
+grows_on was is now a b = record {
+  added = a.added ++ b.added;
+  is = b.is ∙ ap (λ l. l ++ b.added) a.is ∙ append_assoc was.pending a.added b.added;
 }
 
 -- an access of one cell

@@ -2,6 +2,7 @@
 use Rattle.std.proofs.Common.{◌≡◌, ℕ, ◌+◌, ◌-◌, ◌<◌, ◌≤◌, List, length, Bool, true, false, ◌&&◌, ◌==◌, refl, sym, ap, ◌∙◌, subst, arith}
 use Rattle.std.specs.Prelude.{slice_set, if◌then◌else◌}
 use Rattle.std.proofs.lemmas.Bool.{eq-eqb, eqb-true, and_parts}
+use Rattle.std.proofs.lemmas.List.{length-set}
 use Rattle.sc_isa.specs.declared.access.Track.{Track}
 use Rattle.sc_isa.specs.declared.access.Track.TheVariants.{Counter, Store, Covered}
 use Rattle.msg_pool.specs.declared.message.Message.{Message}
@@ -11,8 +12,8 @@ use Rattle.fabric.specs.Flight.{flying_count}
 use Rattle.fabric.specs.Books.{Counts}
 use Rattle.fabric.specs.State.{IsTrack}
 use Rattle.fabric.proofs.Deciding.{decide_on, decide_eq}
-use Rattle.fabric.proofs.BookSteps.{at_same, at_other, length_set}
-use Rattle.fabric.proofs.Sums.{More, counter_there, counter_elsewhere, nat_length_set}
+use Rattle.fabric.proofs.BookSteps.{at_same, at_other}
+use Rattle.fabric.proofs.Sums.{More, counter_there, counter_elsewhere}
 
 less_none : (a b : ℕ) → a ≡ b + 0 → a ≡ b
 less_none a b h = omega (arith, h)
@@ -37,17 +38,17 @@ less_on_counter ms ms' book book' node d c more within known is all =
           subst (λ y. outstanding (with_outstanding book node (Counter d) (outstanding book node d - 1)) n y ≡ flying_count (λ other. other == n) (is_counter y) ms') (eqb-true d x two.1)
           (subst (λ z. outstanding (with_outstanding book node (Counter d) (outstanding book node d - 1)) z d ≡ flying_count (λ other. other == z) (is_counter d) ms') (eqb-true node n two.0) moved))
           (λ f. counter_elsewhere book node d (outstanding book node d - 1) n x within f
-          ∙ c.counters n x (subst (λ y. n < y) (length_set book.nodes node _) below) at
+          ∙ c.counters n x (subst (λ y. n < y) (length-set book.nodes node _) below) at
           ∙ (let m = more.counted (λ other. other == n) (is_counter x) in less_none _ _ (m ∙ rw f refl)));
       stores = c.stores ∙ less_none _ _ (more.counted (λ other. true) is_store);
       covered = c.covered ∙ less_none _ _ (more.counted (λ other. true) is_covered);
       all = (let a : all_outstanding (with_outstanding book node (Counter d) (outstanding book node d - 1)) + 1 ≡ all_outstanding book = subst (λ b. all_outstanding b + 1 ≡ all_outstanding book) is all in omega (arith, a, c.all, more.long));
       lists = λ n below.
-          let under : n < length book.nodes = subst (λ y. n < y) (length_set book.nodes node _) below in
+          let under : n < length book.nodes = subst (λ y. n < y) (length-set book.nodes node _) below in
           let row : NodeBook = record (node_at book node) { counters = slice_set (node_at book node).counters d (outstanding book node d - 1) } in
           decide_eq node n
           (λ same. ap (λ (r : NodeBook). length r.counters) (subst (λ z. node_at (with_node book node row) z ≡ row) same (at_same book node row within))
-          ∙ nat_length_set (node_at book node).counters d (outstanding book node d - 1) ∙ c.lists node within)
+          ∙ length-set (node_at book node).counters d (outstanding book node d - 1) ∙ c.lists node within)
           (λ ne. ap (λ (r : NodeBook). length r.counters) (at_other book node n row ne) ∙ c.lists n under);
     })
 

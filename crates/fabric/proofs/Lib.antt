@@ -24,3 +24,5 @@ pub mod Fewer
 pub mod Delivering
 pub mod DeliverySteps
 pub mod Beginning
+pub mod Knowing
+pub mod Pending

@@ -2,6 +2,7 @@
 use Rattle.std.proofs.Common.{◌≡◌, ℕ, ◌+◌, ◌-◌, ◌<◌, ◌≤◌, List, [], ◌∷◌, length, map, sum, false, refl, sym, ap, ◌∙◌, subst, arith}
 use Rattle.std.specs.Prelude.{sum_by, slice_set, slice_index_or}
 use Rattle.std.proofs.lemmas.List.Sums.{sum_by-cons, sum_by-set}
+use Rattle.std.proofs.lemmas.List.{length-set}
 use Rattle.sc_base.specs.declared.value.Value.{Value}
 use Rattle.sc_base.specs.declared.value.Place.{Place}
 use Rattle.effect_order.specs.Effect.{held}
@@ -22,7 +23,7 @@ use Rattle.fabric.specs.Log.{Log}
 use Rattle.fabric.specs.State.{State, messages_of, start_of, nodes_of}
 use Rattle.fabric.specs.Kept.{IsOfJournal, IsReady, IsRead, AreAwaited, IsFabric}
 use Rattle.fabric.proofs.Deciding.{decide_eq}
-use Rattle.fabric.proofs.BookSteps.{at_same, at_other, length_set, length_map, mapped}
+use Rattle.fabric.proofs.BookSteps.{at_same, at_other, length_map, mapped}
 
 -- ---- books with the same counts
 
@@ -37,7 +38,7 @@ pub record SameCounts (old new : Book) : Type 0 where
 
 pub with_row : (book : Book) (q : ℕ) (row : NodeBook) → q < length book.nodes → row.counters ≡ (node_at book q).counters → SameCounts book (with_node book q row)
 with_row book q row within same = record {
-  nodes = length_set book.nodes q row;
+  nodes = length-set book.nodes q row;
   sites = refl;
   counters = λ node counter below.
       decide_eq q node

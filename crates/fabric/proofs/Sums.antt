@@ -2,6 +2,7 @@
 use Rattle.std.proofs.Common.{◌≡◌, ℕ, zero, suc, ◌+◌, ◌<◌, ◌≤◌, List, [], ◌∷◌, ◌++◌, length, Bool, true, false, ◌&&◌, ◌==◌, refl, sym, ap, ◌∙◌, subst, arith}
 use Rattle.std.specs.Prelude.{slice_set, slice_index_or, if◌then◌else◌}
 use Rattle.std.proofs.lemmas.Bool.{eq-eqb, eqb-true, and_parts}
+use Rattle.std.proofs.lemmas.List.{length-set}
 use Rattle.sc_isa.specs.declared.access.Track.{Track}
 use Rattle.sc_isa.specs.declared.access.Track.TheVariants.{Counter, Store, Covered}
 use Rattle.msg_pool.specs.declared.message.Message.{Message}
@@ -12,7 +13,7 @@ use Rattle.fabric.specs.Books.{Counts}
 use Rattle.fabric.specs.State.{IsTrack}
 use Rattle.fabric.proofs.Deciding.{decide_on, decide_eq}
 use Rattle.fabric.proofs.Counting.{count_append}
-use Rattle.fabric.proofs.BookSteps.{at_same, at_other, length_set}
+use Rattle.fabric.proofs.BookSteps.{at_same, at_other}
 
 -- each of the messages is of the node, on the track
 abbrev pub AllOf : (node : ℕ) → Track → List Message → Type 0
@@ -67,11 +68,6 @@ counter_elsewhere book node counter k n c within apart =
     ∙ ap (λ x. slice_index_or (node_at book x).counters c 0) same)
     (λ ne. ap (λ (r : NodeBook). slice_index_or r.counters c 0) (at_other book node n row ne))
 
-pub nat_length_set : (xs : List ℕ) (i v : ℕ) → length (slice_set xs i v) ≡ length xs
-nat_length_set [] i v = refl
-nat_length_set (x ∷ xs) zero v = refl
-nat_length_set (x ∷ xs) (suc i) v = ap suc (nat_length_set xs i v)
-
 -- the second list has so many more of the node, on the track
 pub record More (node : ℕ) (track : Track) (k : ℕ) (ms ms' : List Message) : Type 0 where
   pub counted : (of : ℕ → Bool) (on : Track → Bool) → flying_count of on ms' ≡ flying_count of on ms + (if of node && on track then k else 0)
@@ -108,17 +104,17 @@ more_on_counter ms ms' book book' node d k c more within known is all =
           (subst (λ z. outstanding (with_outstanding book node (Counter d) (outstanding book node d + k)) z d ≡ flying_count (λ other. other == z) (is_counter d) ms') (eqb-true node n two.0)
           (moved ∙ sym (more.counted (λ other. other == node) (is_counter d) ∙ rw (eq-eqb node node refl, eq-eqb d d refl) refl))))
           (λ f. counter_elsewhere book node d (outstanding book node d + k) n x within f
-          ∙ c.counters n x (subst (λ y. n < y) (length_set book.nodes node _) below) at
+          ∙ c.counters n x (subst (λ y. n < y) (length-set book.nodes node _) below) at
           ∙ sym (more.counted (λ other. other == n) (is_counter x) ∙ rw f (omega arith)));
       stores = c.stores ∙ sym (more.counted (λ other. true) is_store ∙ omega arith);
       covered = c.covered ∙ sym (more.counted (λ other. true) is_covered ∙ omega arith);
       all = (let a : all_outstanding (with_outstanding book node (Counter d) (outstanding book node d + k)) ≡ all_outstanding book + k = subst (λ b. all_outstanding b ≡ all_outstanding book + k) is all in a ∙ ap (λ n. n + k) c.all ∙ sym more.long);
       lists = λ n below.
-          let under : n < length book.nodes = subst (λ y. n < y) (length_set book.nodes node _) below in
+          let under : n < length book.nodes = subst (λ y. n < y) (length-set book.nodes node _) below in
           let row : NodeBook = record (node_at book node) { counters = slice_set (node_at book node).counters d (outstanding book node d + k) } in
           decide_eq node n
           (λ same. ap (λ (r : NodeBook). length r.counters) (subst (λ z. node_at (with_node book node row) z ≡ row) same (at_same book node row within))
-          ∙ nat_length_set (node_at book node).counters d (outstanding book node d + k) ∙ c.lists node within)
+          ∙ length-set (node_at book node).counters d (outstanding book node d + k) ∙ c.lists node within)
           (λ ne. ap (λ (r : NodeBook). length r.counters) (at_other book node n row ne) ∙ c.lists n under);
     })
 

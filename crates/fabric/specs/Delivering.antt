@@ -13,18 +13,20 @@ use Rattle.sync_book.specs.Book.{Book, outstanding_on, with_outstanding}
 use Rattle.fabric.specs.declared.reads.Awaited.{Awaited}
 use Rattle.fabric.specs.Flight.{back_from}
 use Rattle.fabric.specs.Reads.{filled}
-use Rattle.fabric.specs.State.{messages_of}
+use Rattle.fabric.specs.State.{messages_of, Grows}
 
 -- the value of the part after these effects: what its place holds, or what it writes
 abbrev pub value_in : (start : Place → Value) → List Effect → Part → Value
 value_in start earlier (part.Read from back) = held start from earlier
 value_in start earlier (part.Write to value) = value
 
--- the message that the id names is taken out, all others stay in their order, and what it becomes is put last
+-- the message that the id names is taken out, all others stay under their ids, in their order, and what it becomes is put
+-- last
 pub record Delivers (old : Pool) (id : MsgId) (message : Message) (value : Value) (new : Pool) : Type 0 where
   pub before : List Pending
   pub after : List Pending
   pub was : old.pending ≡ before ++ record { id = id; message = message } ∷ after
+  pub stay : Grows (record old { pending = before ++ after }) new
   pub is : messages_of new ≡ map (λ (p : Pending). p.message) (before ++ after) ++ back_from message value message.part
 
 -- ---- what serves the call's own functions

@@ -10,7 +10,7 @@ use Rattle.node_memory.specs.Memory.{Memory, Holds}
 use Rattle.fabric.specs.Access.{transfer_of, track_of}
 use Rattle.fabric.specs.Effects.{due, cell_at_issue, at_issue}
 use Rattle.fabric.specs.Flight.{carried, sent}
-use Rattle.fabric.specs.State.{messages_of}
+use Rattle.fabric.specs.State.{Grows, messages_of}
 
 -- no part of the cell has occurred
 pub record Untouched (node number cell : ℕ) (earlier : List Effect) : Type 0 where
@@ -41,6 +41,7 @@ pub record Sends (old new : Pool) (m : Message) : Type 0 where
   pub puts : new.puts ≡ old.puts + 1
   pub nodes : new.nodes ≡ old.nodes
   pub count : length new.pending ≡ length old.pending + 1
+  pub stay : Grows old new
 
 -- a message of the node may be put, to any place of the memory
 pub record CanSend (memory : Memory) (pool : Pool) (node : ℕ) : Type 0 where

@@ -1,6 +1,6 @@
 -- What a fabric keeps: its memory, its messages in flight and its books are those of its journal, which is one that it
 -- allows.
-use Rattle.std.specs.Prelude.{◌≡◌, ℕ, ◌+◌, ◌<◌, ◌≤◌, List, [], ◌∷◌, length, map, Some, None, false}
+use Rattle.std.specs.Prelude.{◌≡◌, ◌==◌, ℕ, ◌+◌, ◌<◌, ◌≤◌, List, [], ◌∷◌, length, map, Some, None, false}
 use Rattle.sc_base.specs.declared.value.Value.{Value}
 use Rattle.sc_base.specs.declared.value.Place.{Place}
 use Rattle.effect_order.specs.Effect.{Effect, held}
@@ -14,9 +14,12 @@ use Rattle.sc_isa.specs.declared.journal.Entry.{Entry}
 use Rattle.msg_pool.specs.declared.message.Message.{Message}
 use Rattle.msg_pool.specs.declared.message.Part.{Part}
 use Rattle.msg_pool.specs.declared.message.Part.TheVariants as part
+use Rattle.msg_pool.specs.Pool.{of_issuer}
 use Rattle.node_memory.specs.Memory.{Holds}
 use Rattle.fabric.specs.declared.reads.Awaited.{Awaited}
+use Rattle.fabric.specs.Access.{any_track}
 use Rattle.fabric.specs.Effects.{access_at, awaited, effects, or_zero}
+use Rattle.fabric.specs.Outstanding.{outstanding}
 use Rattle.fabric.specs.Flight.{in_flight}
 use Rattle.fabric.specs.Wired.{Wired}
 use Rattle.fabric.specs.Books.{Counts, Stands}
@@ -32,6 +35,11 @@ pub record IsOfJournal (state : State) : Type 0 where
   pub stands : Stands state.past state.book
   pub rows : length state.book.nodes ≡ nodes_of state
   pub pool_nodes : state.pool.nodes ≡ nodes_of state
+
+-- each node has as many pending messages as it has issued cells, over all tracks, whose last part has not occurred
+abbrev pub OpenCellsPend : State → Type 0
+OpenCellsPend state =
+    (node : ℕ) → length (of_issuer node state.pool.pending) ≡ outstanding (start_of state) (λ other. other == node) any_track state.past
 
 -- ---- what serves the calls to come
 

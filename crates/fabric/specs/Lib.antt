@@ -16,3 +16,4 @@ pub mod Log
 pub mod Causes
 pub mod Issuing
 pub mod Delivering
+pub mod Known

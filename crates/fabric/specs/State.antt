@@ -1,5 +1,5 @@
 -- What a fabric is seen as, and what its calls ask.
-use Rattle.std.specs.Prelude.{◌≡◌, ℕ, ◌+◌, ◌*◌, ◌<◌, ◌≤◌, List, map, Option, slice_get}
+use Rattle.std.specs.Prelude.{◌≡◌, ℕ, ◌+◌, ◌*◌, ◌<◌, ◌≤◌, List, ◌++◌, map, Option, slice_get}
 use Rattle.std.specs.Option.{option_map}
 use Rattle.sc_base.specs.declared.shape.Ty.{Ty}
 use Rattle.sc_base.specs.declared.value.Value.{Value}
@@ -38,6 +38,11 @@ nodes_of state = state.memory.layout.nodes
 -- the pending messages, in order of their puts
 abbrev pub messages_of : Pool → List Message
 messages_of pool = map (λ (p : Pending). p.message) pool.pending
+
+-- the pending messages stay under their ids, in their order, and others are put behind them
+pub record Grows (old new : Pool) : Type 0 where
+  pub added : List Pending
+  pub is : new.pending ≡ old.pending ++ added
 
 -- the track is one of these sites'
 abbrev pub IsTrack : (sites : ℕ) → Track → Type 0

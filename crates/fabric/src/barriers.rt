@@ -23,6 +23,7 @@ impl Fabric {
         requires room { 0 < self.old.spare }
         ensures past { self.new.past ≡ Arrived node stores ∷ self.old.past }
         ensures rest { self.new ≡ record self.old { past = self.new.past; spare = self.old.spare - 1; book = self.new.book } }
+        ensures sites { self.new.book.sites ≡ self.old.book.sites }
     {
         self.book.arrive(node, stores);
         self.log.add(Entry::Arrived { node, stores });
@@ -41,6 +42,7 @@ impl Fabric {
         ensures rest { result ≡ Yes → self.new ≡ record self.old { past = self.new.past; spare = self.old.spare - 1; book = self.new.book } }
         ensures same { (result ≡ Yes → ⊥) → self.new ≡ self.old }
         ensures some_missing { SomeMissing result }
+        ensures sites { self.new.book.sites ≡ self.old.book.sites }
     {
         if self.book.released(node) {
             self.leave(node);
@@ -59,6 +61,7 @@ impl Fabric {
         requires room { 0 < self.old.spare }
         ensures past { self.new.past ≡ PassedIt node ∷ self.old.past }
         ensures rest { self.new ≡ record self.old { past = self.new.past; spare = self.old.spare - 1; book = self.new.book } }
+        ensures sites { self.new.book.sites ≡ self.old.book.sites }
     {
         self.book.leave(node);
         self.log.add(Entry::Passed { node });
@@ -71,6 +74,7 @@ impl Fabric {
         requires room { 0 < self.old.spare }
         ensures past { self.new.past ≡ PassedIt node ∷ self.old.past }
         ensures rest { self.new ≡ record self.old { past = self.new.past; spare = self.old.spare - 1; book = self.new.book } }
+        ensures sites { self.new.book.sites ≡ self.old.book.sites }
     {
         self.book.release();
         self.book.leave(node);
@@ -84,6 +88,7 @@ impl Fabric {
         requires room { 0 < self.old.spare }
         ensures past { self.new.past ≡ Finished node end ∷ self.old.past }
         ensures rest { self.new ≡ record self.old { past = self.new.past; spare = self.old.spare - 1; book = self.new.book } }
+        ensures sites { self.new.book.sites ≡ self.old.book.sites }
     {
         self.book.finish(node);
         self.log.add(Entry::Finished { node, end });

@@ -11,7 +11,7 @@ ghost use Rattle.msg_pool.specs.Pool.{IsPending};
 ghost use Rattle.sync_book.specs.Book.{IsTrackOf, outstanding_on, all_outstanding};
 ghost use Rattle.fabric.specs.Effects.{effects};
 ghost use Rattle.fabric.specs.Flight.{back_from};
-ghost use Rattle.fabric.specs.State.{start_of, messages_of};
+ghost use Rattle.fabric.specs.State.{start_of, messages_of, Grows};
 ghost use Rattle.fabric.specs.Kept.{PartReady};
 ghost use Rattle.fabric.specs.Issuing.{HoldsAfter, IsSendable};
 ghost use Rattle.fabric.specs.Delivering.{value_in, Delivers, back_of, HasPart, book_after, reads_after};
@@ -60,6 +60,7 @@ fn follow(pool: &mut MsgPool, book: &mut SyncBook, message: Message, value: Valu
     requires counter { IsTrackOf book.old message.track }
     requires outstanding { 0 < outstanding_on book.old message.issuer message.track }
     ensures messages { messages_of pool.new ≡ messages_of pool.old ++ back_from message value message.part }
+    ensures stay { Grows pool.old pool.new }
     ensures spare { pool.new.spare + length (back_from message value message.part) ≡ pool.old.spare }
     ensures puts { pool.new.puts ≡ pool.old.puts + length (back_from message value message.part) }
     ensures nodes { pool.new.nodes ≡ pool.old.nodes }

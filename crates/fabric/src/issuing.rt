@@ -7,7 +7,7 @@ ghost use Rattle.effect_order.specs.Transfer.{further};
 ghost use Rattle.sc_layout.specs.Place.{IsPlace, Fits};
 ghost use Rattle.sc_isa.specs.declared.access.Access.TheVariants.{Read, Write, Copy};
 ghost use Rattle.fabric.specs.Access.{transfer_of};
-ghost use Rattle.fabric.specs.State.{IsCopy, IsTrack, IsAccess, messages_of};
+ghost use Rattle.fabric.specs.State.{IsCopy, IsTrack, IsAccess, Grows, messages_of};
 ghost use Rattle.fabric.specs.Kept.{IsReady};
 ghost use Rattle.fabric.specs.Issuing.{Untouched, Unissued, HoldsAfter, CellIssued, CellsIssued, Sends, IsSendable, CanSend, CanSendMany, AtMost};
 
@@ -37,6 +37,7 @@ pub(crate) fn issue_read(
     requires placed { IsPlace memory.now.layout place }
     ensures issued { (earlier : List Effect) → Untouched node number 0 earlier → HoldsAfter memory.now earlier → CellIssued node number 0 (Read place track) earlier memory.now memory.now pool.old pool.new }
     ensures one { AtMost 1 pool.old pool.new }
+    ensures stay { Grows pool.old pool.new }
     ensures ready { (sites : ℕ) → IsTrack sites track → Each (IsReady memory.now.layout sites) (messages_of pool.old) → Each (IsReady memory.now.layout sites) (messages_of pool.new) }
 {
     if place.node != node {
@@ -72,6 +73,7 @@ pub(crate) fn issue_write(
     ensures layout { memory.new.layout ≡ memory.old.layout }
     ensures issued { (earlier : List Effect) → Untouched node number 0 earlier → HoldsAfter memory.old earlier → CellIssued node number 0 (Write place value track) earlier memory.old memory.new pool.old pool.new }
     ensures one { AtMost 1 pool.old pool.new }
+    ensures stay { Grows pool.old pool.new }
     ensures ready { (sites : ℕ) → IsTrack sites track → Each (IsReady memory.old.layout sites) (messages_of pool.old) → Each (IsReady memory.old.layout sites) (messages_of pool.new) }
 {
     if place.node == node {
@@ -122,6 +124,7 @@ fn copy_cell(
     ensures layout { memory.new.layout ≡ memory.old.layout }
     ensures issued { (earlier : List Effect) → Untouched node number cell earlier → HoldsAfter memory.old earlier → CellIssued node number cell (Copy from to cells track) earlier memory.old memory.new pool.old pool.new }
     ensures one { AtMost 1 pool.old pool.new }
+    ensures stay { Grows pool.old pool.new }
     ensures ready { (sites : ℕ) → IsTrack sites track → Each (IsReady memory.old.layout sites) (messages_of pool.old) → Each (IsReady memory.old.layout sites) (messages_of pool.new) }
 {
     let read = further(from, cell);
@@ -179,6 +182,7 @@ pub(crate) fn issue_copy(
     ensures layout { memory.new.layout ≡ memory.old.layout }
     ensures issued { (earlier : List Effect) → Unissued node number earlier → HoldsAfter memory.old earlier → CellsIssued node number cells (Copy from to cells track) earlier memory.old memory.new pool.old pool.new }
     ensures many { AtMost cells pool.old pool.new }
+    ensures stay { Grows pool.old pool.new }
     ensures ready { (sites : ℕ) → IsTrack sites track → Each (IsReady memory.old.layout sites) (messages_of pool.old) → Each (IsReady memory.old.layout sites) (messages_of pool.new) }
 {
     for cell in 0..cells {

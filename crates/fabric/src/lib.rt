@@ -10,6 +10,8 @@ pub mod log;
 pub mod reads;
 pub mod state;
 mod steps;
+#[cfg(test)]
+mod tests;
 mod waits;
 
 pub use answers::{Delivered, Issued, Passed, Waited};

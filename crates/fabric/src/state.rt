@@ -3,7 +3,7 @@
 ghost use Rattle.std.specs.Prelude.{◌≡◌, ◌≤◌, ◌+◌, ◌*◌, [], length, reverse, IfOk, OnOk, OnErr};
 ghost use Rattle.fabric.specs.Effects.{awaited};
 ghost use Rattle.fabric.specs.State.{need_of, HasFewCells};
-ghost use Rattle.fabric.specs.Kept.{IsOfJournal};
+ghost use Rattle.fabric.specs.Kept.{IsOfJournal, OpenCellsPend};
 
 use crate::log::Log;
 use crate::reads::Reads;
@@ -108,10 +108,11 @@ impl Fabric {
         &self.book
     }
 
-    /// The messages in flight.
+    /// The messages in flight: of each node as many as it has issued cells with a part still to occur.
     pub fn pool(&self) -> &MsgPool
         ensures is { result.now ≡ self.now.pool }
         ensures of_journal { IsOfJournal self.now }
+        ensures open_cells { OpenCellsPend self.now }
     {
         &self.pool
     }

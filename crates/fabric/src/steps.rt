@@ -15,7 +15,7 @@ ghost use Rattle.sc_isa.specs.declared.journal.Entry.TheVariants.{Issued as Issu
 ghost use Rattle.fabric.specs.Access.{transfer_of, track_of};
 ghost use Rattle.fabric.specs.Effects.{access_at, effects, issues};
 ghost use Rattle.fabric.specs.Wired.{Going};
-ghost use Rattle.fabric.specs.State.{nodes_of, need_of, IsAccess, IsPlaced, IsTrack, messages_of};
+ghost use Rattle.fabric.specs.State.{nodes_of, need_of, IsAccess, IsPlaced, IsTrack, Grows, messages_of};
 ghost use Rattle.fabric.specs.Kept.{IsReady, AreAwaited};
 ghost use Rattle.fabric.specs.Issuing.{Unissued, HoldsAfter, CellsIssued, CanSendMany, AtMost};
 
@@ -47,6 +47,7 @@ fn issue_access(memory: &mut NodeMemory, pool: &mut MsgPool, node: u32, number: 
     ensures layout { memory.new.layout ≡ memory.old.layout }
     ensures issued { (earlier : List Effect) → Unissued node number earlier → HoldsAfter memory.old earlier → CellsIssued node number (transfer_of access).cells access earlier memory.old memory.new pool.old pool.new }
     ensures many { AtMost (transfer_of access).cells pool.old pool.new }
+    ensures stay { Grows pool.old pool.new }
     ensures ready { (sites : ℕ) → IsTrack sites (track_of access) → Each (IsReady memory.old.layout sites) (messages_of pool.old) → Each (IsReady memory.old.layout sites) (messages_of pool.new) }
 {
     match access {
@@ -133,6 +134,7 @@ impl Fabric {
         ensures number { result.number ≡ issues node self.old.past }
         ensures past { self.new.past ≡ IssuedIt node result.number access ∷ self.old.past }
         ensures messages { result.messages + length self.old.pool.pending ≡ length self.new.pool.pending }
+        ensures stay { Grows self.old.pool self.new.pool }
         ensures spare { self.new.spare + need_of access ≡ self.old.spare }
         ensures layout { self.new.memory.layout ≡ self.old.memory.layout }
         ensures sites { self.new.book.sites ≡ self.old.book.sites }

@@ -1,6 +1,6 @@
--- Doubly linked lists of keys, over a function that gives the neighbours of each key. No public clause cites this
--- module.
-use Rattle.std.specs.Prelude.{◌≡◌, ◌≢◌, ℕ, zero, suc, ◌+◌, ◌-◌, ◌==◌, if◌then◌else◌, List, [], ◌∷◌, length}
+-- Doubly linked lists of keys, over a function that gives the neighbours of each key. No public clause but the law's
+-- cites this module.
+use Rattle.std.specs.Prelude.{◌≡◌, ◌≢◌, ℕ, zero, suc, ◌+◌, ◌-◌, ◌==◌, if◌then◌else◌, List, [], ◌∷◌, length, reverse}
 use Rattle.std.specs.Prelude.{slice_index_or, Option, Some, None, is_none}
 use Rattle.std.specs.List.{filter}
 use Rattle.std.specs.Option.{option_or}
@@ -65,6 +65,17 @@ forward links (Some key) (suc count) = key ∷ forward links (next_in links (Som
 -- the keys of the chain, walked from its head
 abbrev pub walk_of : Links → Chain → List ℕ
 walk_of links chain = forward links chain.head chain.count
+
+-- so many keys from this one on, each before the one before it
+abbrev pub backward : Links → Option ℕ → ℕ → List ℕ
+backward links at zero = []
+backward links None (suc count) = []
+backward links (Some key) (suc count) = key ∷ backward links (previous_in links (Some key)) count
+
+-- the chain, walked from its head, is that list, and walked from its tail the same reversed
+pub record IsWalkedBothWays (links : Links) (chain : Chain) (keys : List ℕ) : Type 0 where
+  pub from_head : walk_of links chain ≡ keys
+  pub from_tail : backward links chain.tail chain.count ≡ reverse keys
 
 -- the chain is the list of its walk
 abbrev pub IsWalked : Links → Chain → Type 0

@@ -3,3 +3,4 @@ pub mod Chains
 pub mod Slots
 pub mod Sound
 pub mod Inner
+pub mod Laws

@@ -1,4 +1,5 @@
--- The messages of a slab as links, and how a chain changes there. No public clause cites this module.
+-- The messages of a slab as links, and how a chain changes there. No public clause but the law's cites this
+-- module.
 use Rattle.std.specs.Prelude.{ℕ, Option, Some, None, slice_set, unwrap_or}
 use Rattle.std.specs.Option.{option_map}
 use Rattle.slab.specs.Slab.{Slab, get, ContainsKey}

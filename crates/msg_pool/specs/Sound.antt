@@ -1,4 +1,4 @@
--- What the pool keeps of its slab and its chains. No public clause cites this module.
+-- What the pool keeps of its slab and its chains. No public clause but the law's cites this module.
 use Rattle.std.specs.Prelude.{◌≡◌, ℕ, ◌-◌, ◌<◌, ◌≤◌, List, [], ◌∷◌, map, length}
 use Rattle.slab.specs.Slab.{Slab, ContainsKey, slab_len}
 use Rattle.msg_pool.specs.declared.slot.Grouping.TheVariants.{Every, Issuer, Target}

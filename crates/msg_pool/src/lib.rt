@@ -3,6 +3,7 @@
 #![tactic(auto)]
 
 mod chain;
+pub mod laws;
 pub mod message;
 mod pool;
 mod slot;

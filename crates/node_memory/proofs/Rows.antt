@@ -1,13 +1,11 @@
 -- The rows of a memory before any write hold what the cells of a layout begin with.
-use Rattle.std.proofs.Common.{◌≡◌, ◌≢◌, ℕ, zero, suc, ◌+◌, ◌*◌, ◌<◌, ◌≤◌, List, [], ◌∷◌, ◌++◌, Option, Some, None, take, get_or, add-one, rules, refl, sym, ap, ◌∙◌, subst, arith, length, map, replicate}
-use Rattle.std.specs.Prelude.{slice_get, IsSomeAnd, pos, FitsSigned}
-use Rattle.std.specs.Int.{w64}
+use Rattle.std.proofs.Common.{◌≡◌, ℕ, zero, suc, ◌+◌, ◌*◌, ◌<◌, ◌≤◌, List, [], ◌∷◌, ◌++◌, Option, Some, None, take, get_or, add-one, rules, refl, sym, ap, ◌∙◌, subst, arith, length, replicate}
+use Rattle.std.specs.Prelude.{slice_get, IsSomeAnd}
 use Rattle.std.specs.Option.{option_map, option_map_or}
 use Rattle.std.proofs.lemmas.Nat.{mul-add-lt}
 use Rattle.std.proofs.lemmas.Option.{slice_get-map, slice_get_within, get_or_from_slice_get}
 use Rattle.std.proofs.Math.Seq.{take-suc}
 use Rattle.sc_base.specs.declared.value.Value.{Value}
-use Rattle.sc_base.specs.declared.value.Value.TheVariants.{Int, Null}
 use Rattle.sc_base.specs.declared.value.Place.{Place}
 use Rattle.sc_base.specs.declared.shape.Star.{Star}
 use Rattle.sc_base.specs.declared.shape.Ty.{Ty}
@@ -16,7 +14,7 @@ use Rattle.sc_layout.specs.Place.{IsPlace, Fits, FitsType}
 use Rattle.sc_layout.specs.Start.{zero_of, zero_in, start}
 use Rattle.sc_layout.proofs.Kept.{cells-le-first}
 use Rattle.node_memory.specs.Rows.{row_at_start, rows_at_start}
-use Rattle.node_memory.specs.Memory.{Memory, row, row_or_none, index_at, cell, Holds, AllFit}
+use Rattle.node_memory.specs.Memory.{Memory, row_or_none, index_at, Holds, AllFit}
 
 -- the memory of a layout before any write
 abbrev pub memory_at_start : Arrangement → Memory

@@ -9,7 +9,7 @@ use Rattle.fabric.specs.Effects.{at_issue}
 use Rattle.fabric.specs.State.{messages_of}
 use Rattle.fabric.specs.Kept.{IsReady}
 use Rattle.fabric.specs.Issuing.{CellsIssued}
-use Rattle.fabric.proofs.Copying.{next_cell, still_untouched, one_more}
+use Rattle.fabric.proofs.Copying.{next_cell, still_untouched, one_more, grows_on}
 use Rattle.fabric.proofs.issuing.issue_copy.Goals as goal
 
 pub loop-cell-preserved : goal.loop-cell-preserved
@@ -28,4 +28,5 @@ loop-cell-preserved c =
       (λ sites known all.
           subst (λ (l : Arrangement). Each (IsReady l sites) (messages_of c.loop-cell.pool) → Each (IsReady l sites) (messages_of c.copy_cell.new.pool)) i.0
           (c.copy_cell.ensures.ready sites known) (i.3 sites known all)),
+      grows_on c.args.pool.now c.loop-cell.pool c.copy_cell.new.pool i.4 c.copy_cell.ensures.stay,
     )

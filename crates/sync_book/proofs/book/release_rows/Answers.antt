@@ -1,4 +1,3 @@
-use Rattle.std.proofs.Common.{refl}
 use Rattle.std.proofs.lemmas.List.Edits.{map_over_more}
 use Rattle.sync_book.specs.Book.{released_node}
 use Rattle.sync_book.proofs.book.release_rows.Goals as goal

@@ -1,9 +1,3 @@
-use Rattle.std.proofs.Common.{sym, subst}
-use Rattle.sc_layout.specs.Layout.{Arrangement}
-use Rattle.sc_base.specs.declared.value.Value.{Value}
-use Rattle.std.proofs.Common.{List}
-use Rattle.node_memory.specs.Memory.{Memory, Holds, AllFit}
-use Rattle.sc_layout.specs.Start.{start}
 use Rattle.node_memory.proofs.Rows.{holds_start, all_fit_start}
 use Rattle.node_memory.proofs.memory.NodeMemory.new.Goals as goal
 

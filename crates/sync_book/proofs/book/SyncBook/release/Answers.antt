@@ -1,7 +1,6 @@
-use Rattle.std.proofs.Common.{◌≡◌, ◌+◌, List, length, sym, subst, ap, ◌∙◌, refl}
+use Rattle.std.proofs.Common.{◌≡◌, List, length, sym, subst}
 use Rattle.std.proofs.Math.ListN.{length-map}
 use Rattle.std.specs.List.{All}
-use Rattle.std.specs.Vec.{with_items}
 use Rattle.std.proofs.lemmas.List.{with_items_is}
 use Rattle.std.proofs.lemmas.List.Elements.{All-map}
 use Rattle.sync_book.specs.Book.{NodeBook, HasCounters, released_node}
