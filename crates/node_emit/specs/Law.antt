@@ -1,21 +1,20 @@
 -- The code theorem, as of a compiler in Leroy (2009): for each plan that waits in time emitted code is sound, carries the flow
 -- and the plan, and does what its source does, point for point.
-use Rattle.std.specs.Prelude.{◌≡◌, ◌≢◌, ◌⊎◌, ℕ, ◌+◌, ◌<◌, ◌≤◌, ◌==◌, ◌||◌, List, [], ◌∷◌, ◌++◌, map, Option, Some, None, Bool, true, false, slice_get}
+use Rattle.std.specs.Prelude.{◌≡◌, ◌≢◌, ◌⊎◌, ℕ, ◌+◌, ◌<◌, ◌≤◌, ◌==◌, ◌||◌, List, [], ◌∷◌, ◌++◌, Option, Some, None, Bool, true, false, slice_get}
 use Rattle.std.specs.List.{list_any}
 use Rattle.resumption.specs.Resumption.{RunEnd, Short, RunOf}
-use Rattle.sc_base.specs.declared.shape.Shape.{Shape}
 use Rattle.sc_base.specs.declared.value.End.{End}
 use Rattle.sc_layout.specs.Layout.{Arrangement}
 use Rattle.sc_isa.specs.declared.code.Code.{Code}
 use Rattle.sc_isa.specs.Begin.{entry}
 use Rattle.sc_isa.specs.Sound.{IsSound}
 use Rattle.sc_core.specs.Core.{Function, Program}
-use Rattle.sc_core.specs.Typed.{IsTyped}
 use Rattle.sc_meaning.specs.Points.{size_of}
 use Rattle.sc_meaning.specs.Meaning.{Setting, pointed}
 use Rattle.site_graph.specs.declared.plan.Plan.{Plan}
 use Rattle.site_graph.specs.Plans.{IsPlan, WaitsInTime}
 use Rattle.flow_form.specs.FlowOf.{flow_of}
+use Rattle.value_soundness.specs.Laws.{IsLaidSource}
 use Rattle.node_emit.specs.Sources.{IsCodeOf}
 use Rattle.node_emit.specs.Spelled.{Piece}
 use Rattle.node_emit.specs.Pointed.{code_points}
@@ -75,6 +74,6 @@ BeginsInMain program code = entry code ≡ slice_get code.functions program.main
 abbrev pub CodeTheorem : Type 0
 CodeTheorem =
     (layout : Arrangement) (program : Program) (plan : Plan) (code : Code)
-    → IsTyped (map (λ o. o.shape) layout.objects) program → IsPlan (flow_of layout.nodes program) plan
+    → IsLaidSource layout program → IsPlan (flow_of layout.nodes program) plan
     → WaitsInTime (flow_of layout.nodes program) plan → IsCodeOf plan program code → BeginsInMain program code
     → IsEmitted layout program plan code

@@ -4,7 +4,7 @@ use Rattle.std.proofs.Common.{◌≡◌, ◌≢◌, ℕ, ◌+◌, ◌<◌, ◌�
 use Rattle.std.specs.Prelude.{nat_lt, IsSome}
 use Rattle.std.specs.List.{All}
 use Rattle.std.proofs.lemmas.Bool.{cases_eq, ne_eqb, ltb-true, lt-ltb}
-use Rattle.std.proofs.lemmas.List.Elements.{All-nil, All-cons}
+use Rattle.std.proofs.lemmas.List.Elements.{All-nil, All-cons, All-contains_itself}
 use Rattle.std.proofs.lemmas.Option.{slice_get_within, get_or_from_slice_get}
 use Rattle.resumption.specs.Resumption.{run_of}
 use Rattle.sc_base.specs.declared.value.End.{End}
@@ -155,7 +155,7 @@ module _ (layout : Arrangement) (program : Program) (budget : ℕ) (source : IsL
       → RunsLawfully layout exposed (run_so_far processes node past)
   run_lawful past node below s =
       runs layout exposed (processes.starts node) [] (answers processes node past)
-      (promises layout program node budget source below) s.names
+      (promises layout program exposed node budget source below (All-contains_itself exposed)) s.names
 
   request_lawful : (past : List SourceEvent) (node number : ℕ) (request : Request) → node < layout.nodes
       → StandsAfter node past
@@ -447,7 +447,7 @@ module _ (layout : Arrangement) (program : Program) (budget : ℕ) (source : IsL
       events = [];
       rest = processes.starts node;
       leads = at_once;
-      promises = promises layout program node budget source below;
+      promises = promises layout program exposed node budget source below (All-contains_itself exposed);
       names = All-nil _;
       done = [];
       later = (run_of (processes.starts node) []).events;

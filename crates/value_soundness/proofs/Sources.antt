@@ -3,7 +3,7 @@ use Rattle.std.proofs.Common.{◌≡◌, ℕ, zero, suc, ◌+◌, ◌-◌, ◌<�
 use Rattle.std.specs.Prelude.{flat_map, pos}
 use Rattle.std.specs.List.{All, Contains}
 use Rattle.std.proofs.lemmas.List.{length-map, map-append}
-use Rattle.std.proofs.lemmas.List.Elements.{All-nil, All-cons, All-head, All-tail, Contains-append_left, Contains-append_right}
+use Rattle.std.proofs.lemmas.List.Elements.{All-nil, All-cons, All-head, All-tail, All-contains, Contains-append_left, Contains-append_right}
 use Rattle.std.proofs.lemmas.Option.{slice_get_within, get_or_from_slice_get}
 use Rattle.resumption.specs.Resumption.{Asks, Makes, Says, Stops, RunOf, run_of, after_event, unanswered}
 use Rattle.sc_base.specs.declared.value.End.TheVariants.{Ended}
@@ -174,20 +174,20 @@ module _ (here : Setting) (exposed : List ℕ) (objects : List Shape)
 
 -- ---- a source
 
-pub promises : (layout : Arrangement) (program : Program) (node budget : ℕ) → IsLaidSource layout program
-    → node < layout.nodes
-    → Promises layout (exposes_of program) [] (meaning
-    (record { layout = layout; node = node; program = program }) budget)
-promises layout program node budget source below =
+pub promises : (layout : Arrangement) (program : Program) (exposed : List ℕ) (node budget : ℕ)
+    → IsLaidSource layout program → node < layout.nodes → All (Contains exposed) (exposes_of program)
+    → Promises layout exposed [] (meaning (record { layout = layout; node = node; program = program }) budget)
+promises layout program exposed node budget source below among =
     let here : Setting = record { layout = layout; node = node; program = program } in
     let typed = source.typed in
     let footing : Footing layout node (map (λ object. object.shape) layout.objects) =
     record { laid = source.laid; few = source.few_nodes; shapes = refl; node_within = below } in
-    without layout (exposes_of program) (Sync 0) [] (pointed here budget)
-    (subst (λ (o : Option Function). PromisesPointed layout (exposes_of program) [] (begun here o budget))
+    without layout exposed (Sync 0) [] (pointed here budget)
+    (subst (λ (o : Option Function). PromisesPointed layout exposed [] (begun here o budget))
     (sym typed.begins)
-    (begun_safe here (exposes_of program) (map (λ object. object.shape) layout.objects) footing typed.functions
-    (λ n f at. exposed_there program.functions n f at) typed.main budget typed.begins typed.no_params))
+    (begun_safe here exposed (map (λ object. object.shape) layout.objects) footing typed.functions
+    (λ n f at o c. All-contains (Contains exposed) (exposes_of program) o among (exposed_there program.functions n f at o c))
+    typed.main budget typed.begins typed.no_params))
 
 -- ---- runs
 

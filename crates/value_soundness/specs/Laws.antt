@@ -1,7 +1,7 @@
 -- Soundness of values, for sources that are typed: what is well typed does not go wrong, as in Milner, "A theory of
 -- type polymorphism in programming" (1978).
 use Rattle.std.specs.Prelude.{ℕ, ◌^◌, ◌<◌, List, map, IsSome}
-use Rattle.std.specs.List.{All}
+use Rattle.std.specs.List.{All, Contains}
 use Rattle.resumption.specs.Resumption.{run_of, follow}
 use Rattle.sc_layout.specs.Layout.{Arrangement, IsLayout}
 use Rattle.sc_core.specs.Core.{Program}
@@ -21,13 +21,15 @@ pub record IsLaidSource (layout : Arrangement) (program : Program) : Type 0 wher
   pub few_nodes : layout.nodes < 2 ^ 32
   pub typed : IsTyped (map (λ object. object.shape) layout.objects) program
 
--- Under answers whose pointers name exposed objects only, each node's run is lawful. An answer that does not fit its
--- cell is no answer to a run.
+-- Under answers whose pointers name exposed objects only, each node's run is lawful; so it is with any more objects
+-- taken as exposed, as all are where answers may name whatever fits. An answer that does not fit its cell is no answer
+-- to a run.
 abbrev pub RunsAreLawful : Type 0
 RunsAreLawful =
-    (layout : Arrangement) (program : Program) (node budget : ℕ) (given : List Answer)
-    → IsLaidSource layout program → node < layout.nodes → All (AnswerNamesOnly (exposes_of program)) given
-    → RunsLawfully layout (exposes_of program)
+    (layout : Arrangement) (program : Program) (exposed : List ℕ) (node budget : ℕ) (given : List Answer)
+    → IsLaidSource layout program → node < layout.nodes → All (Contains exposed) (exposes_of program)
+    → All (AnswerNamesOnly exposed) given
+    → RunsLawfully layout exposed
     (run_of (meaning (record { layout = layout; node = node; program = program }) budget) given)
 
 -- what a past shows of a node is lawful: each answer was asked for and fits, its pointers name exposed objects only,
