@@ -1,7 +1,7 @@
 //! The core trees of sources, printed.
 
 use super::DECLARED;
-use crate::accept;
+use crate::{CompileError, accept};
 use core_lower::lower;
 use sc_core::{
     CoreArms, CoreExpr, CoreExprs, CoreFirst, CoreProgram, CoreStmt, CoreTests, Operation,
@@ -215,7 +215,8 @@ fn core_of(rt: &HostRuntime, source: &str) -> Result<Option<CoreProgram>, Fail> 
             Ok(program) => Ok(Some(program)),
             Err(_) => Err(Fail::from(AllocError)),
         },
-        Err(_) => Ok(None),
+        Err(CompileError::Refused(_)) => Ok(None),
+        Err(CompileError::OutOfMemory) => Err(Fail::from(AllocError)),
     }
 }
 
