@@ -50,6 +50,9 @@ pub record DoesAsSource (told : Oracle → Story) (played : Oracle → (many : �
   pub whole : (oracle : Oracle) → (told oracle).end ≢ Short → (enough : ℕ) × ((many : ℕ) → enough ≤ many → played oracle many ≡ told oracle)
   -- with fewer it begins the source's
   pub begins : (oracle : Oracle) (many : ℕ) → (told oracle).end ≢ Short → IsBegun (played oracle many) (told oracle)
+  -- what the source shows the code shows too, with enough instructions
+  pub reaches : (oracle : Oracle) → (enough : ℕ) × ((many : ℕ) → enough ≤ many
+      → IsFront (told oracle).events (played oracle many).events × IsFront (told oracle).text (played oracle many).text)
   -- and both agree as far as both go
   pub agree : (oracle : Oracle) (many : ℕ) → Agree (played oracle many).events (told oracle).events
   pub texts_agree : (oracle : Oracle) (many : ℕ) → Agree (played oracle many).text (told oracle).text

@@ -11,3 +11,4 @@ pub mod Walks
 pub mod Carries
 pub mod Oracles
 pub mod Law
+pub mod Forgotten
