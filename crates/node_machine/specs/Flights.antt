@@ -9,7 +9,8 @@ use Rattle.sc_isa.specs.Run.{Ask, Issue, Wait}
 
 -- a read on a counter flies from its issue on
 abbrev pub flown_by : Access → List Flight → List Flight
-flown_by (access.Read place (tracks.Counter counter)) flying = flying ++ record { counter = counter; place = place } ∷ []
+flown_by (access.Read place (tracks.Counter counter)) flying =
+    flying ++ record { counter = counter; place = place } ∷ []
 flown_by _ flying = flying
 
 -- to the next wait on its counter

@@ -54,7 +54,8 @@ Done _ _ m = ⊥
 
 -- from whatever state the machine stood for, the move was made
 abbrev pub Does : (old : Machine) → Move → (new : Machine) → (State → table.Move) → Type 0
-Does old made new next = (flying : List Flight) → Counts old.reads flying → Done (next (state_of old flying)) made new
+Does old made new next =
+    (flying : List Flight) → Counts old.reads flying → Done (next (state_of old flying)) made new
 
 -- a whole step: the move was made, and what it says, and nothing else, was added to the text
 abbrev pub Stepped : table.Move → Move → Machine → (before now : List ℕ) → Type 0

@@ -4,6 +4,7 @@ ghost use Rattle.std.specs.Prelude.{◌≡◌, ℕ, ◌+◌, ◌<◌, ◌≤◌,
 ghost use Rattle.sc_isa.specs.declared.code.Code.{Code};
 ghost use Rattle.sc_isa.specs.declared.access.Track.{Track};
 ghost use Rattle.sc_isa.specs.declared.access.Track.TheVariants as tracks;
+ghost use Rattle.sc_base.specs.declared.value.Place.{Place};
 ghost use Rattle.sc_isa.specs.Deeds.{read, write, fill, get, put, send, copy, gets};
 ghost use Rattle.sc_isa.specs.State.{Flight};
 ghost use Rattle.sc_isa.specs.Moves.{taken, act_done};
@@ -126,7 +127,7 @@ impl Machine {
         };
         match spot(layout, pointer) {
             Spotted::Found(place) => {
-                let after = self.fill_local(place, site, local, line);
+                let after = self.fill_local(site, local, line);
                 Move::Issues(read_of(place, site), after)
             }
             Spotted::Missing(kind) => fails(kind, line),
@@ -134,13 +135,13 @@ impl Machine {
         }
     }
 
-    /// A read of the place lands in the local.
+    /// A read lands in the local, of whatever place.
     #[tactic(auto, using(crate::proofs::Flying::counts_more))]
-    fn fill_local(&mut self, _place: Place, site: u32, local: u32, line: u32) -> After
+    fn fill_local(&mut self, site: u32, local: u32, line: u32) -> After
         requires counter { site < length self.old.reads }
         requires room { slice_index self.old.reads site + 1 < 2 ^ 64 }
-        ensures done { (flying : List Flight) → Counts self.old.reads flying → AfterDone (filled _place site local line
-            (state_of self.old flying)) result self.new }
+        ensures done { (place : Place) (flying : List Flight) → Counts self.old.reads flying
+            → AfterDone (filled place site local line (state_of self.old flying)) result self.new }
         ensures counters { length self.new.reads ≡ length self.old.reads }
     {
         match self.local(local, line) {

@@ -1,5 +1,5 @@
-//! The instructions that loops over numbers are made of, done at once where they ask, end and need nothing. They do what
-//! the table does, and are left to it where anything else comes of them.
+//! The instructions that loops over numbers are made of, done at once where they ask, end and need nothing. They do
+//! what the table does, and are left to it where anything else comes of them.
 
 ghost use Rattle.std.specs.Prelude.{◌≡◌, ℕ, ◌+◌, ◌<◌, ◌^◌, true, false, length, slice_get};
 ghost use Rattle.sc_isa.specs.declared.op.Op.TheVariants as ops;
