@@ -1,6 +1,6 @@
 //! The frames of a node.
 
-ghost use Rattle.std.specs.Prelude.{◌≡◌, true, ◌+◌, ◌-◌, ◌<◌, ◌≤◌, [], ◌∷◌, ◌++◌, length, map, reverse, take, drop, replicate, slice_get, slice_set, IfSome, OnSome, IfNone, OnOk, IfOk};
+ghost use Rattle.std.specs.Prelude.{◌≡◌, ◌↔◌, IsTrue, ◌+◌, ◌-◌, ◌<◌, ◌≤◌, [], ◌∷◌, ◌++◌, length, map, reverse, take, drop, replicate, slice_get, slice_set, IfSome, OnSome, IfNone, OnOk, IfOk};
 ghost use Rattle.sc_isa.specs.declared.operand.Slot.TheVariants.{Holds};
 ghost use Rattle.sc_isa.specs.State.{blank, land, land_slot, land_frame};
 
@@ -75,7 +75,7 @@ impl Frames {
 
     /// Whether there is room for an operand.
     pub fn has_room(&self) -> bool
-        ensures { result ≡ true → 0 < self.now.spare }
+        ensures { IsTrue result ↔ (0 < self.now.spare) }
     {
         self.stack.len() < self.stack.capacity()
     }
