@@ -1,0 +1,14 @@
+pub mod Operations
+pub mod Flying
+pub mod Taking
+pub mod Getting
+pub mod Doing
+pub mod Calling
+pub mod Texts
+pub mod Indexed
+pub mod Plainly
+pub mod Advancing
+pub mod Nexts
+pub mod Answered
+pub mod Beginning
+pub mod Flies

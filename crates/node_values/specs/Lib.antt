@@ -1,0 +1,4 @@
+pub mod Operands
+pub mod Plain
+pub mod Elements
+pub mod Printing
