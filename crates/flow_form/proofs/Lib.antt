@@ -1,3 +1,4 @@
+pub mod Run
 mod Parts
 mod ExampleBranch
 mod ExampleCalls

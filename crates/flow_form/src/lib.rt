@@ -2,5 +2,7 @@
 #![tactic(auto)]
 
 pub mod error;
+pub mod laws;
 
 pub use error::FlowError;
+pub use laws::{points_stand_in_order, sites_are_the_accesses};

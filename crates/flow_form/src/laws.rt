@@ -1,0 +1,13 @@
+//! Laws of the flow of a source. Each is the contract of a function with an empty body; nothing of it runs.
+
+ghost use Rattle.flow_form.specs.Laws.{PointsStandInOrder, SitesAreTheAccesses};
+
+/// Each point of a flow stands at its number.
+pub fn points_stand_in_order()
+    ensures { PointsStandInOrder }
+{}
+
+/// A flow has as many sites as its source has accesses.
+pub fn sites_are_the_accesses()
+    ensures { SitesAreTheAccesses }
+{}
