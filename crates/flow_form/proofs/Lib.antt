@@ -1,4 +1,7 @@
 pub mod Run
+pub mod Rises
+pub mod Good
+pub mod Kept
 mod Parts
 mod ExampleBranch
 mod ExampleCalls

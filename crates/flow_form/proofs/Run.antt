@@ -1,25 +1,28 @@
 -- Lists of points stand in order: each point at its number, and each site behind those before it.
-use Rattle.std.proofs.Common.{◌≡◌, ℕ, zero, suc, ◌+◌, List, [], ◌∷◌, ◌++◌, length, Option, Some, None, slice_get, refl, sym, ap, ◌∙◌, subst, arith, append_assoc}
+use Rattle.std.proofs.Common.{◌≡◌, ◌⊎◌, inl, inr, ⊎_elim, ℕ, zero, suc, ◌+◌, ◌<◌, ◌≤◌, List, [], ◌∷◌, ◌++◌, length, Option, Some, None, slice_get, refl, sym, ap, ◌∙◌, subst, arith}
 use Rattle.std.specs.Prelude.{filter_map, map, sum_by}
 use Rattle.std.specs.List.{cons_option}
+use Rattle.std.specs.Option.{option_map_or}
+use Rattle.std.proofs.Math.Nat.{eq-or-lt_of_le}
 use Rattle.std.proofs.lemmas.List.Sums.{sum_by-cons}
 use Rattle.sc_core.specs.declared.operation.Operation.{Operation}
 use Rattle.sc_core.specs.declared.operation.Operation.TheVariants as op
 use Rattle.sc_core.specs.declared.operation.Action.{Action}
 use Rattle.sc_core.specs.declared.operation.Action.TheVariants as acts
 use Rattle.sc_core.specs.Core.{Core, constant, step, choice, update, Arguments, none, argument, Does, nothing, break, continue, then_, act, choose, loop, return, Function, Program}
-use Rattle.sc_meaning.specs.Points.{one_if_some, size, sizes, size_of, first_from}
+use Rattle.sc_meaning.specs.Points.{one_if_some, size, sizes, size_of}
 use Rattle.site_graph.specs.declared.point.PointKind.{PointKind}
-use Rattle.site_graph.specs.declared.point.PointKind.TheVariants.{Start, Plain, Access, Sync, Barrier, StoreSync, Call, Return}
+use Rattle.site_graph.specs.declared.point.PointKind.TheVariants.{Start, Plain, Access, Return}
 use Rattle.site_graph.specs.declared.site.Site.{Site}
 use Rattle.flow_form.specs.Within.{Within, Placed}
-use Rattle.flow_form.specs.Accesses.{accesses, accesses_all, accesses_by, accesses_by_action, accesses_back, accesses_in, accesses_of}
+use Rattle.flow_form.specs.Accesses.{accesses, accesses_all, accesses_by, accesses_by_action, accesses_back, accesses_in}
 use Rattle.flow_form.specs.Occurring.{mark, occurring}
 use Rattle.flow_form.specs.Exits.{behind, exits, fetched, fetched_by, leaves}
 use Rattle.flow_form.specs.Steps.{callee_of, kind_of, kind_of_action, site_of, site_of_action, bare, step_at, action_at}
 use Rattle.flow_form.specs.Expressions.{points, points_all, points_back, test_at}
 use Rattle.flow_form.specs.Statements.{points_in, points_of, in_loop}
-use Rattle.flow_form.specs.FlowOf.{points_from, all_points, flow_of, start, within, returns}
+use Rattle.flow_form.specs.FlowOf.{points_from, start, within, returns}
+use Rattle.flow_form.proofs.Rises.{Each}
 use Rattle.flow_form.specs.Laws.{PointsStandInOrder, SitesAreTheAccesses}
 
 -- no access, and no start
@@ -227,6 +230,14 @@ abbrev pub sites_from : (s : ℕ) → List Function → ℕ
 sites_from s [] = s
 sites_from s (f ∷ more) = sites_from (s + accesses_in f.body) more
 
+pub last_after : (k : ℕ) (functions : List Function) → k ≤ last_from k functions
+last_after k [] = omega arith
+last_after k (f ∷ more) = let h = last_after (k + size_of f.body + 2) more in omega arith
+
+pub sites_after : (s : ℕ) (functions : List Function) → s ≤ sites_from s functions
+sites_after s [] = omega arith
+sites_after s (f ∷ more) = let h = sites_after (s + accesses_in f.body) more in omega arith
+
 pub runs_from : (nodes : ℕ) (returns : ℕ → List ℕ) (n k s : ℕ) (functions : List Function)
     → Runs (points_from nodes returns n k s functions) k s (last_from k functions) (sites_from s functions)
 runs_from nodes returns n k s [] = (refl, refl)
@@ -268,6 +279,14 @@ pub long : (ps : List Placed) (k s l t : ℕ) → Runs ps k s l t → k + length
 long [] k s l t h = let e = h.0 in omega arith
 long (p ∷ ps) k s l t h = let r = long ps (k + 1) (s + one_site p.site) l t h.2 in omega arith
 
+-- each is below the number behind the last
+pub at_below : (ps : List Placed) (k s l t : ℕ) → Runs ps k s l t → Each (λ p. p.at < l) ps
+at_below [] k s l t h = tt
+at_below (p ∷ ps) k s l t h =
+    let e = h.0 in
+    let r = long ps (k + 1) (s + one_site p.site) l t h.2 in
+    (omega arith, at_below ps (k + 1) (s + one_site p.site) l t h.2)
+
 one_more : (o : Option Site) (rest : List Site) → length (cons_option o rest) ≡ one_site o + length rest
 one_more None rest = omega arith
 one_more (Some x) rest = omega arith
@@ -281,6 +300,77 @@ sites_long (p ∷ ps) k s l t h =
     let r = sites_long ps (k + 1) (s + one_site p.site) l t h.2 in
     let e = one_more p.site (sites_in ps) in
     omega arith
+
+-- ---- kinds
+
+-- what the point at this place does
+abbrev pub kind_in : List Placed → ℕ → PointKind
+kind_in ps i = option_map_or (λ p. p.kind) (slice_get (map (λ p. p.point) ps) i) Plain
+
+counted_start : (s : ℕ) (o : Option Site) (kind : PointKind) → IsCounted s o kind → kind ≡ Start → ⊥
+counted_start s None kind h e = subst IsQuiet e h
+counted_start s (Some site) kind h e = cc
+
+counted_access : (s number : ℕ) (o : Option Site) (kind : PointKind) → IsCounted s o kind → kind ≡ Access number
+    → (number ≡ suc s) × (one_site o ≡ 1)
+counted_access s number None kind h e = absurd (subst IsQuiet e h)
+counted_access s number (Some site) kind h e = (cc, refl)
+
+pub none_starts : (ps : List Placed) (k s l t i : ℕ) → Runs ps k s l t → kind_in ps i ≡ Start → ⊥
+none_starts [] k s l t i h e = cc
+none_starts (p ∷ ps) k s l t zero h e = counted_start s p.site p.point.kind h.1 e
+none_starts (p ∷ ps) k s l t (suc i) h e = none_starts ps (k + 1) (s + one_site p.site) l t i h.2 e
+
+pub numbered : (ps : List Placed) (k s l t i number : ℕ) → Runs ps k s l t → kind_in ps i ≡ Access number
+    → (s < number) × (number ≤ t)
+numbered [] k s l t i number h e = absurd cc
+numbered (p ∷ ps) k s l t zero number h e =
+    let c = counted_access s number p.site p.point.kind h.1 e in
+    let n = c.0 in
+    let o = c.1 in
+    let more = sites_long ps (k + 1) (s + one_site p.site) l t h.2 in
+    (omega arith, omega arith)
+numbered (p ∷ ps) k s l t (suc i) number h e =
+    let r = numbered ps (k + 1) (s + one_site p.site) l t i number h.2 e in
+    let a = r.0 in
+    let b = r.1 in
+    (omega arith, omega arith)
+
+here_or_later : (s number : ℕ) (o : Option Site) (kind : PointKind) → IsCounted s o kind → s < number
+    → (kind ≡ Access number) ⊎ (s + one_site o < number)
+here_or_later s number None kind h lt = inr (omega arith)
+here_or_later s number (Some site) kind h lt =
+    ⊎_elim (λ e. inl (h ∙ ap Access e)) (λ l. inr (omega arith)) (eq-or-lt_of_le {n = suc s} {m = number} (omega arith))
+
+-- each number has a point,
+pub has_point : (ps : List Placed) (k s l t number : ℕ) → Runs ps k s l t → s < number → number ≤ t
+    → (i : ℕ) × (kind_in ps i ≡ Access number)
+has_point [] k s l t number h lt le = let e = h.1 in absurd (omega arith)
+has_point (p ∷ ps) k s l t number h lt le =
+    ⊎_elim (λ e. (0, e)) (λ l'. let r = has_point ps (k + 1) (s + one_site p.site) l t number h.2 l' le in (suc r.0, r.1))
+    (here_or_later s number p.site p.point.kind h.1 lt)
+
+-- and no second one
+pub one_point : (ps : List Placed) (k s l t number i j : ℕ) → Runs ps k s l t → kind_in ps i ≡ Access number
+    → kind_in ps j ≡ Access number → i ≡ j
+one_point [] k s l t number i j h a b = absurd cc
+one_point (p ∷ ps) k s l t number zero zero h a b = refl
+one_point (p ∷ ps) k s l t number zero (suc j) h a b =
+    let c = counted_access s number p.site p.point.kind h.1 a in
+    let n = c.0 in
+    let o = c.1 in
+    let r = numbered ps (k + 1) (s + one_site p.site) l t j number h.2 b in
+    let m = r.0 in
+    absurd (omega arith)
+one_point (p ∷ ps) k s l t number (suc i) zero h a b =
+    let c = counted_access s number p.site p.point.kind h.1 b in
+    let n = c.0 in
+    let o = c.1 in
+    let r = numbered ps (k + 1) (s + one_site p.site) l t i number h.2 a in
+    let m = r.0 in
+    absurd (omega arith)
+one_point (p ∷ ps) k s l t number (suc i) (suc j) h a b =
+    ap suc (one_point ps (k + 1) (s + one_site p.site) l t number i j h.2 a b)
 
 pub points_stand_in_order : PointsStandInOrder
 points_stand_in_order nodes zero program p e =

@@ -5,4 +5,4 @@ pub mod error;
 pub mod laws;
 
 pub use error::FlowError;
-pub use laws::{points_stand_in_order, sites_are_the_accesses};
+pub use laws::{flows_are_kept, points_stand_in_order, sites_are_the_accesses};
