@@ -1,0 +1,4 @@
+pub mod Facts
+pub mod Deeds
+pub mod Passing
+pub mod Walks
