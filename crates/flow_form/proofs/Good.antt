@@ -224,11 +224,13 @@ module _ (n sites : ℕ) where
           → Each (IsGood n sites) (points w e k s froms)
       good (constant c) k s froms f le ls = tt
       good (step operation arguments line) k s froms f le ls =
-          each_append (IsGood n sites) (points_all w arguments k s froms) _ (good_all arguments k s froms f (omega arith) (omega arith))
-          (step_good operation arguments line (k + sizes arguments) (s + accesses_all arguments) (exits_all w.returns arguments k froms)
-          (fetched_all arguments s) (occurring_all w.params arguments ++ occurring_by w.params operation)
-          (exits_all_below n w.returns few arguments k froms f (omega arith))
-          (widely s (s + accesses_all arguments) (fetched_all arguments s) (omega arith) (fetched_all_climbs arguments s)), tt)
+          each_append (IsGood n sites) (points_all w arguments k s froms) _ (good_all arguments k s froms f (omega arith) (omega arith)) (
+            step_good operation arguments line (k + sizes arguments) (s + accesses_all arguments) (exits_all w.returns arguments k froms)
+                (fetched_all arguments s) (occurring_all w.params arguments ++ occurring_by w.params operation)
+                (exits_all_below n w.returns few arguments k froms f (omega arith))
+                (widely s (s + accesses_all arguments) (fetched_all arguments s) (omega arith) (fetched_all_climbs arguments s)),
+            tt,
+          )
       good (choice of_pointer test on off) k s froms f le ls =
           let t = k + size test in
           let s' = s + accesses test in
@@ -248,30 +250,36 @@ module _ (n sites : ℕ) where
           let reads = occurring w.params (update pointer operation right undo line) in
           let one : Below n (t ∷ []) = (omega arith, tt) in
           let reading = step_at w op.Read place line t read (exits w.returns pointer k froms) (fetched pointer s)
-                  (occurring w.params pointer ++ mark) in
+          (occurring w.params pointer ++ mark) in
           let rights = points w right (t + 1) (read + 1) (t ∷ []) in
           let before = points w pointer k s froms in
           let joining = step_at w operation none line u join (exits w.returns right (t + 1) (t ∷ []))
-                  (suc read ∷ fetched right (read + 1)) reads in
-          let joined_climbs : Climbs read join (suc read ∷ fetched right (read + 1)) =
-          (omega arith, climbs_within (suc read) (read + 1) join join (fetched right (read + 1)) (omega arith) (omega arith)
-          (fetched_climbs right (read + 1))) in
+          (suc read ∷ fetched right (read + 1)) reads in
+          let joined_climbs : Climbs read join (suc read ∷ fetched right (read + 1)) = (
+            omega arith,
+            climbs_within (suc read) (read + 1) join join (fetched right (read + 1)) (omega arith) (omega arith)
+                (fetched_climbs right (read + 1)),
+          ) in
           each_append (IsGood n sites) (before ++ reading ∷ rights) _
-          (each_append (IsGood n sites) before (reading ∷ rights) (good pointer k s froms f (omega arith) (omega arith))
-          (step_good op.Read place line t read (exits w.returns pointer k froms) (fetched pointer s) (occurring w.params pointer ++ mark)
-          (exits_below n w.returns few pointer k froms f (omega arith))
-          (widely s read (fetched pointer s) (omega arith) (fetched_climbs pointer s)),
-          good right (t + 1) (read + 1) (t ∷ []) one (omega arith) (omega arith)))
-          (step_good operation none line u join (exits w.returns right (t + 1) (t ∷ [])) (suc read ∷ fetched right (read + 1)) reads
-          (exits_below n w.returns few right (t + 1) (t ∷ []) one (omega arith))
-          (widely read join (suc read ∷ fetched right (read + 1)) (omega arith) joined_climbs),
-          (step_good op.Write place line (u + 1) write (behind w.returns (callee_of operation) u)
-          (fetched pointer s ++ fetched_by operation join) reads
-          (behind_below n w.returns few (callee_of operation) u (omega arith))
-          (widely s write (fetched pointer s ++ fetched_by operation join) (omega arith)
-          (climbs_on s join write (fetched pointer s) (fetched_by operation join)
-          (climbs_within s s read join (fetched pointer s) (omega arith) (omega arith) (fetched_climbs pointer s)) (by_climbs operation join))),
-          back_good undo line (u + 1) (write + 1) reads (omega arith)))
+          (each_append (IsGood n sites) before (reading ∷ rights) (good pointer k s froms f (omega arith) (omega arith)) (
+            step_good op.Read place line t read (exits w.returns pointer k froms) (fetched pointer s) (occurring w.params pointer ++ mark)
+                (exits_below n w.returns few pointer k froms f (omega arith))
+                (widely s read (fetched pointer s) (omega arith) (fetched_climbs pointer s)),
+            good right (t + 1) (read + 1) (t ∷ []) one (omega arith) (omega arith),
+          )) (
+            step_good operation none line u join (exits w.returns right (t + 1) (t ∷ [])) (suc read ∷ fetched right (read + 1)) reads
+                (exits_below n w.returns few right (t + 1) (t ∷ []) one (omega arith))
+                (widely read join (suc read ∷ fetched right (read + 1)) (omega arith) joined_climbs),
+            (
+              step_good op.Write place line (u + 1) write (behind w.returns (callee_of operation) u)
+                  (fetched pointer s ++ fetched_by operation join) reads
+                  (behind_below n w.returns few (callee_of operation) u (omega arith))
+                  (widely s write (fetched pointer s ++ fetched_by operation join) (omega arith)
+                  (climbs_on s join write (fetched pointer s) (fetched_by operation join)
+                  (climbs_within s s read join (fetched pointer s) (omega arith) (omega arith) (fetched_climbs pointer s)) (by_climbs operation join))),
+              back_good undo line (u + 1) (write + 1) reads (omega arith),
+            ),
+          )
 
       pub good_all : (arguments : Arguments) (k s : ℕ) (froms : List ℕ) → Below n froms → k + sizes arguments ≤ n
           → s + accesses_all arguments ≤ sites → Each (IsGood n sites) (points_all w arguments k s froms)
@@ -291,12 +299,14 @@ module _ (n sites : ℕ) where
       (good_in w few second (k + size_of first) (s + accesses_in first) (leaves w.returns first k froms).falls
       (leaves_below n w.returns few first k froms f (omega arith)).falls (omega arith) (omega arith))
   good_in w few (act action arguments line) k s froms f le ls =
-      each_append (IsGood n sites) (points_all w arguments k s froms) _ (good_all w few arguments k s froms f (omega arith) (omega arith))
-      (record {
-        froms = exits_all_below n w.returns few arguments k froms f (omega arith);
-        takes = widely s (s + accesses_all arguments) (fetched_all arguments s) (omega arith) (fetched_all_climbs arguments s);
-        reads = rise (occurring_all w.params arguments ++ fetched_into action);
-      }, tt)
+      each_append (IsGood n sites) (points_all w arguments k s froms) _ (good_all w few arguments k s froms f (omega arith) (omega arith)) (
+        record {
+          froms = exits_all_below n w.returns few arguments k froms f (omega arith);
+          takes = widely s (s + accesses_all arguments) (fetched_all arguments s) (omega arith) (fetched_all_climbs arguments s);
+          reads = rise (occurring_all w.params arguments ++ fetched_into action);
+        },
+        tt,
+      )
   good_in w few (choose of_pointer test on off) k s froms f le ls =
       let t = k + size test in
       let s' = s + accesses test in
@@ -318,32 +328,38 @@ module _ (n sites : ℕ) where
       let hb = leaves_below n w.returns few body (t + 1) (t ∷ []) one (omega arith) in
       let f_after = each_append (λ x. x < n) from_body.falls from_body.continues hb.falls hb.continues in
       let f_before = each_append (λ x. x < n) froms (leaves w.returns after u into_after).falls f
-              (leaves_below n w.returns few after u into_after f_after (omega arith)).falls in
+      (leaves_below n w.returns few after u into_after f_after (omega arith)).falls in
       let befores = points_in w before k s into_before in
       let turning = bare w Plain t (leaves w.returns before k into_before).falls [] [] in
       let bodies = points_in (in_loop w mine before body) body (t + 1) s' (t ∷ []) in
       each_append (IsGood n sites) (befores ++ turning ∷ bodies) _
-      (each_append (IsGood n sites) befores (turning ∷ bodies) (good_in w few before k s into_before f_before (omega arith) (omega arith))
-      (bare_good w few Plain t (leaves w.returns before k into_before).falls [] []
-      (leaves_below n w.returns few before k into_before f_before (omega arith)).falls (omega arith),
-      good_in (in_loop w mine before body) few body (t + 1) s' (t ∷ []) one (omega arith) (omega arith)))
+      (each_append (IsGood n sites) befores (turning ∷ bodies) (good_in w few before k s into_before f_before (omega arith) (omega arith)) (
+        bare_good w few Plain t (leaves w.returns before k into_before).falls [] []
+            (leaves_below n w.returns few before k into_before f_before (omega arith)).falls (omega arith),
+        good_in (in_loop w mine before body) few body (t + 1) s' (t ∷ []) one (omega arith) (omega arith),
+      ))
       (good_in w few after u (s' + accesses_in body) into_after f_after (omega arith) (omega arith))
   good_in w few (return e line) k s froms f le ls =
-      each_append (IsGood n sites) (points w e k s froms) _ (good w few e k s froms f (omega arith) (omega arith))
-      (bare_good w few Return (k + size e) (exits w.returns e k froms) (fetched e s) (occurring w.params e)
-      (exits_below n w.returns few e k froms f (omega arith))
-      (widely s (s + accesses e) (fetched e s) (omega arith) (fetched_climbs e s)), tt)
+      each_append (IsGood n sites) (points w e k s froms) _ (good w few e k s froms f (omega arith) (omega arith)) (
+        bare_good w few Return (k + size e) (exits w.returns e k froms) (fetched e s) (occurring w.params e)
+            (exits_below n w.returns few e k froms f (omega arith))
+            (widely s (s + accesses e) (fetched e s) (omega arith) (fetched_climbs e s)),
+        tt,
+      )
 
   pub good_of : (w : Within) → ((f : ℕ) → Below n (w.returns f)) → (f : Function) (k s : ℕ) → k + size_of f.body + 2 ≤ n
       → s + accesses_in f.body ≤ sites → Each (IsGood n sites) (points_of w f k s)
   good_of w few f k s le ls =
       let one : Below n (k ∷ []) = (omega arith, tt) in
-      let falls = (leaves w.returns f.body (k + 1) (k ∷ [])).falls in
-      (bare_good w few Plain k [] [] [] tt (omega arith),
-      each_append (IsGood n sites) (points_in w f.body (k + 1) s (k ∷ [])) _
-      (good_in w few f.body (k + 1) s (k ∷ []) one (omega arith) ls)
-      (bare_good w few Return (k + 1 + size_of f.body) falls [] []
-      (leaves_below n w.returns few f.body (k + 1) (k ∷ []) one (omega arith)).falls (omega arith), tt))
+      let falls = (leaves w.returns f.body (k + 1) (k ∷ [])).falls in (
+        bare_good w few Plain k [] [] [] tt (omega arith),
+        each_append (IsGood n sites) (points_in w f.body (k + 1) s (k ∷ [])) _
+            (good_in w few f.body (k + 1) s (k ∷ []) one (omega arith) ls) (
+              bare_good w few Return (k + 1 + size_of f.body) falls [] []
+                  (leaves_below n w.returns few f.body (k + 1) (k ∷ []) one (omega arith)).falls (omega arith),
+              tt,
+            ),
+      )
 
   pub good_from : (nodes : ℕ) (returns : ℕ → List ℕ) → ((f : ℕ) → Below n (returns f)) → (i k s : ℕ) (functions : List Function)
       → last_from k functions ≤ n → sites_from s functions ≤ sites

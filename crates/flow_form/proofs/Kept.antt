@@ -55,9 +55,10 @@ module _ (nodes : ℕ) (program : Program) where
   few f = returns_below total functions 1 f (omega arith)
 
   pub all_good : Each (IsGood total sites) (all_points nodes program)
-  all_good =
-      (record { froms = tt; takes = omega arith; reads = tt },
-      good_from total sites nodes (returns functions) few 0 1 0 functions (omega arith) (omega arith))
+  all_good = (
+    record { froms = tt; takes = omega arith; reads = tt },
+    good_from total sites nodes (returns functions) few 0 1 0 functions (omega arith) (omega arith),
+  )
 
   pub all_below : Each (λ p. p.at < total) (all_points nodes program)
   all_below = (last_after 1 functions, at_below rest 1 0 total sites (runs_behind nodes program))

@@ -137,12 +137,12 @@ module _ (w : Within) where
         let place = argument pointer none in
         let reads = occurring w.params (update pointer operation right undo line) in
         let reading = step_at w op.Read place line t read (exits w.returns pointer k froms) (fetched pointer s)
-                (occurring w.params pointer ++ mark) in
+        (occurring w.params pointer ++ mark) in
         let rights = points w right (t + 1) (read + 1) (t ∷ []) in
         let joining = step_at w operation none line u join (exits w.returns right (t + 1) (t ∷ []))
-                (suc read ∷ fetched right (read + 1)) reads in
+        (suc read ∷ fetched right (read + 1)) reads in
         let writing = step_at w op.Write place line (u + 1) write (behind w.returns (callee_of operation) u)
-                (fetched pointer s ++ fetched_by operation join) reads in
+        (fetched pointer s ++ fetched_by operation join) reads in
         let backs = points_back w undo line (u + 1) (write + 1) reads in
         ending _ k s (u + 1 + 1 + one_if_some undo) (write + 1 + accesses_back undo) _ _ (omega arith) (omega arith)
         (joined (points w pointer k s froms ++ (reading ∷ rights)) (joining ∷ writing ∷ backs) k s u join _ _

@@ -1,12 +1,12 @@
 -- What is known of a flow where one of its points is.
-use Rattle.std.proofs.Common.{◌≡◌, inl, inr, ⊎_elim, ℕ, zero, suc, ◌+◌, ◌<◌, List, [], ◌∷◌, ◌++◌, length, Bool, true, Option, Some, None, slice_get, refl, sym, ap, ◌∙◌, subst, arith}
-use Rattle.std.specs.Prelude.{ltb, map, flat_map, filter_map, if◌then◌else◌}
+use Rattle.std.proofs.Common.{◌≡◌, inl, ⊎_elim, ℕ, suc, ◌+◌, ◌<◌, List, [], ◌∷◌, length, Bool, true, Option, Some, None, slice_get, refl, sym, ap, ◌∙◌, subst, arith}
+use Rattle.std.specs.Prelude.{ltb, map, flat_map, if◌then◌else◌}
 use Rattle.std.specs.List.{cons_option}
 use Rattle.std.specs.Option.{option_map, option_map_or}
 use Rattle.std.proofs.lemmas.Bool.{lt-ltb}
 use Rattle.std.proofs.lemmas.Option.{slice_get-map}
-use Rattle.sc_core.specs.Core.{Function, Program}
-use Rattle.sc_meaning.specs.Points.{size_of, first_from, first_point}
+use Rattle.sc_core.specs.Core.{Program}
+use Rattle.sc_meaning.specs.Points.{first_point}
 use Rattle.site_graph.specs.declared.flow.Edge.{Edge}
 use Rattle.site_graph.specs.declared.point.Point.{Point}
 use Rattle.site_graph.specs.declared.point.PointKind.{PointKind}

@@ -1,7 +1,7 @@
 -- What is kept where a step is passed along an edge, and where a request is one of the last point passed, holds of what a
 -- source makes a node do from Start. What comes after a part holds from each of the points from which the flow goes on
 -- behind the part.
-use Rattle.std.proofs.Common.{◌≡◌, inl, inr, ⊎_elim, ℕ, zero, suc, ◌+◌, ◌-◌, ◌<◌, List, [], ◌∷◌, ◌++◌, length, Option, Some, None, Bool, true, false, slice_get, refl, sym, ap, ◌∙◌, subst, arith}
+use Rattle.std.proofs.Common.{◌≡◌, inl, ℕ, zero, suc, ◌+◌, ◌-◌, ◌<◌, List, [], ◌∷◌, ◌++◌, length, Option, Some, None, Bool, true, false, slice_get, refl, sym, ◌∙◌, subst, arith}
 use Rattle.std.specs.Prelude.{pos, negsuc}
 use Rattle.std.specs.Option.{option_map_or}
 use Rattle.std.proofs.lemmas.Option.{slice_get_within}
@@ -18,7 +18,7 @@ use Rattle.sc_core.specs.declared.operation.Operation.{Operation}
 use Rattle.sc_core.specs.declared.operation.Operation.TheVariants as op
 use Rattle.sc_core.specs.declared.operation.Action.{Action}
 use Rattle.sc_core.specs.declared.operation.Action.TheVariants as acts
-use Rattle.sc_core.specs.Core.{Core, constant, step, choice, update, Arguments, none, argument, Does, nothing, break, continue, then_, act, choose, loop, return, Function, Program}
+use Rattle.sc_core.specs.Core.{Core, constant, step, choice, update, Arguments, none, argument, Does, nothing, break, continue, then_, act, choose, loop, return, Function}
 use Rattle.sc_core.specs.Table.{made_of, done_of}
 use Rattle.sc_core.specs.Statements.{zero_of}
 use Rattle.sc_meaning.specs.declared.request.Request.{Request}
@@ -26,12 +26,11 @@ use Rattle.sc_meaning.specs.declared.request.Request.TheVariants as request
 use Rattle.sc_meaning.specs.Asking.{PointedDoing, Requested, Answer, Shown, Landed, Passed, Broken, Halt, Finishes, Breaks, fits_read, fits_sync, fits_barrier}
 use Rattle.sc_meaning.specs.Memory.{Slot, has, awaits, Memory, top, slot, with_slot, with_get, places, synced, entered, pushed, popped}
 use Rattle.sc_meaning.specs.Points.{size, sizes, size_of, first_from, first_point}
-use Rattle.sc_meaning.specs.Steps.{Rest, Calls, shown_or_zero, landed_or_none, unless_broken, barrier_request, used, none_awaits, counted, decided_by, decided_as, decided, perform, mode_of, enact}
-use Rattle.sc_meaning.specs.Meaning.{Setting, pass, constant_of, Jumps, rounds, performed, taken_back, value, values, does, end_point, in_body, body_of, entering, calls_by, begun, pointed}
-use Rattle.site_graph.specs.declared.point.PointKind.TheVariants.{Plain, Return, Access, Sync, Barrier, StoreSync}
+use Rattle.sc_meaning.specs.Steps.{Rest, Calls, shown_or_zero, landed_or_none, unless_broken, used, none_awaits, counted, decided_by, decided_as, decided, perform, mode_of, enact}
+use Rattle.sc_meaning.specs.Meaning.{Setting, pass, constant_of, Jumps, rounds, performed, taken_back, value, values, does, in_body, body_of, entering, calls_by, begun}
+use Rattle.site_graph.specs.declared.point.PointKind.TheVariants.{Plain, Return, Access}
 use Rattle.site_graph.specs.declared.site.Site.{Site}
-use Rattle.site_graph.specs.declared.site.SiteKind.{SiteKind}
-use Rattle.site_graph.specs.Graph.{Graph, kind_at, site_at}
+use Rattle.site_graph.specs.Graph.{Graph}
 use Rattle.site_graph.specs.Ways.{Goes}
 use Rattle.flow_form.specs.Within.{Within, Placed}
 use Rattle.flow_form.specs.Accesses.{accesses, accesses_all, accesses_by, accesses_in}
@@ -40,9 +39,9 @@ use Rattle.flow_form.specs.Exits.{behind, behind_back, exits, exits_all, fetched
 use Rattle.flow_form.specs.Steps.{callee_of, bare, step_at, action_at}
 use Rattle.flow_form.specs.Expressions.{points, points_all, points_back, test_at}
 use Rattle.flow_form.specs.Statements.{points_in, points_of, returns_of, end_of, in_loop}
-use Rattle.flow_form.specs.FlowOf.{points_from, all_points, flow_of, start, within, returns}
+use Rattle.flow_form.specs.FlowOf.{points_from, all_points, flow_of, within, returns}
 use Rattle.flow_form.specs.Walk.{IsAccess, IsMadeAt}
-use Rattle.flow_form.proofs.Rises.{Each, In, in_left, in_right, each_weaker, each_of}
+use Rattle.flow_form.proofs.Rises.{Each, In, in_left, in_right, each_of}
 use Rattle.flow_laws.proofs.Deeds.{IsOf, made_is, IsOfAction, done_is}
 use Rattle.flow_laws.proofs.Facts.{Facts, facts}
 
@@ -65,7 +64,7 @@ each_right P [] ys h = h
 each_right P (x ∷ xs) ys h = each_right P xs ys h.1
 
 module _ (here : Setting) (P : (last : ℕ) → PointedDoing → Type 0)
-  (k : Keeps (flow_of here.layout.nodes here.program) P) where
+    (k : Keeps (flow_of here.layout.nodes here.program) P) where
   abbrev graph : Graph
   graph = flow_of here.layout.nodes here.program
 
@@ -138,7 +137,7 @@ module _ (here : Setting) (P : (last : ℕ) → PointedDoing → Type 0)
       → ((v : Value) → Holds (returns here.program.functions f) (go v)) → (m : Memory) (left : ℕ) → P t (calling f vs line go m left)
 
   module _ (calling : Calls) (call_holds : CallHolds calling) (w : Within)
-    (same : (f : ℕ) → w.returns f ≡ returns here.program.functions f) where
+      (same : (f : ℕ) → w.returns f ≡ returns here.program.functions f) where
     perform_holds : (operation : Operation) (arguments : Arguments) (line t s : ℕ) (froms takes locals : List ℕ)
         → Has (step_at w operation arguments line t s froms takes locals)
         → (made : Made) → IsOf operation made → (go : Value → Rest)
@@ -225,12 +224,12 @@ module _ (here : Setting) (P : (last : ℕ) → PointedDoing → Type 0)
           let place = argument pointer none in
           let locals = occurring w.params (update pointer operation right undo line) in
           let reading = step_at w op.Read place line t read (exits w.returns pointer at froms) (fetched pointer s)
-                  (occurring w.params pointer ++ mark) in
+          (occurring w.params pointer ++ mark) in
           let rights = points w right (t + 1) (read + 1) (t ∷ []) in
           let joining = step_at w operation none line u join (exits w.returns right (t + 1) (t ∷ []))
-                  (suc read ∷ fetched right (read + 1)) locals in
+          (suc read ∷ fetched right (read + 1)) locals in
           let writing = step_at w op.Write place line (u + 1) write (behind w.returns (callee_of operation) u)
-                  (fetched pointer s ++ fetched_by operation join) locals in
+          (fetched pointer s ++ fetched_by operation join) locals in
           let backs = points_back w undo line (u + 1) (write + 1) locals in
           let before = points w pointer at s froms in
           let f_front = each_left Has (before ++ reading ∷ rights) (joining ∷ writing ∷ backs) f in
@@ -427,13 +426,13 @@ module _ (here : Setting) (P : (last : ℕ) → PointedDoing → Type 0)
         }) holds)
         (λ round holds.
         let more = does_holds w same next u (s' + accesses_in body) into_after f_after
-                (λ y i. r y (in_right y front_returns after_returns i)) around round
-                (record {
-                  back = jumps.back;
-                  out = λ y i. h y (in_right y (a.breaks ++ b.breaks) c.breaks i);
-                  again = λ y i. jumps.again y (in_right y a.continues c.continues i);
-                })
-                (λ y i. holds y (in_right y froms c.falls i)) in
+        (λ y i. r y (in_right y front_returns after_returns i)) around round
+        (record {
+          back = jumps.back;
+          out = λ y i. h y (in_right y (a.breaks ++ b.breaks) c.breaks i);
+          again = λ y i. jumps.again y (in_right y a.continues c.continues i);
+        })
+        (λ y i. holds y (in_right y froms c.falls i)) in
         does_holds w' same body (t + 1) s' (t ∷ []) f_turn.1
         (λ y i. r y (in_left y front_returns after_returns (in_right y (returns_in before at) (returns_in body (t + 1)) i)))
         (record { back = j.back; out = after; again = does here calling next u around round }) (does here calling next u around round)

@@ -1,7 +1,5 @@
 -- The points that a source passes are a walk through its flow, and its requests are those of the points.
-use Rattle.std.proofs.Common.{ℕ, refl}
-use Rattle.sc_meaning.specs.Asking.{PointedDoing}
-use Rattle.sc_meaning.specs.Meaning.{Setting}
+use Rattle.std.proofs.Common.{refl}
 use Rattle.site_graph.specs.Graph.{Graph}
 use Rattle.flow_form.specs.FlowOf.{flow_of}
 use Rattle.flow_form.specs.Walk.{GoesOn, Requests}
