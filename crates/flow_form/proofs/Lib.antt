@@ -2,6 +2,7 @@ pub mod Run
 pub mod Rises
 pub mod Good
 pub mod Kept
+pub mod Counting
 mod Parts
 mod ExampleBranch
 mod ExampleCalls

@@ -10,3 +10,4 @@ pub mod Statements
 pub mod FlowOf
 pub mod Walk
 pub mod Laws
+pub mod Counts

@@ -1,8 +1,10 @@
 //! The flow of a source, from its core tree.
 #![tactic(auto)]
 
+pub mod count;
 pub mod error;
 pub mod laws;
 
+pub use count::Count;
 pub use error::FlowError;
 pub use laws::{flows_are_kept, points_stand_in_order, sites_are_the_accesses};
