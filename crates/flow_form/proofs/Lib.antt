@@ -3,6 +3,7 @@ pub mod Rises
 pub mod Good
 pub mod Kept
 pub mod Counting
+pub mod Scanning
 mod Parts
 mod ExampleBranch
 mod ExampleCalls

@@ -2,7 +2,6 @@
 use Rattle.std.specs.Prelude.{ℕ, ◌+◌, List, [], ◌∷◌, ◌++◌}
 use Rattle.sc_core.specs.Core.{Core, Arguments, Does}
 use Rattle.sc_core.specs.View.{Linked, Tested}
-use Rattle.sc_core.specs.ViewStatements.{Armed}
 use Rattle.sc_meaning.specs.Points.{size, sizes, size_of}
 use Rattle.flow_form.specs.declared.count.Count.{Count}
 use Rattle.flow_form.specs.Accesses.{accesses, accesses_all, accesses_by, accesses_in}

@@ -11,3 +11,4 @@ pub mod FlowOf
 pub mod Walk
 pub mod Laws
 pub mod Counts
+pub mod Scans
