@@ -4,6 +4,7 @@ pub mod Good
 pub mod Kept
 pub mod Counting
 pub mod Scanning
+pub mod Scanned
 mod Parts
 mod ExampleBranch
 mod ExampleCalls

@@ -9,4 +9,4 @@ pub mod scan;
 pub use count::Count;
 pub use error::FlowError;
 pub use laws::{flows_are_kept, points_stand_in_order, sites_are_the_accesses};
-pub use scan::{Entries, Entry, Whole, entries_of};
+pub use scan::{Entries, Entry, Whole, entries_of, scan_source};

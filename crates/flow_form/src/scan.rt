@@ -1,14 +1,18 @@
 //! Where the functions of a source begin and return, and how many points and sites they have.
 
-ghost use Rattle.std.specs.Prelude.{◌≡◌, IfOk, OnOk, map, [], length};
+ghost use Rattle.std.specs.Prelude.{◌≡◌, ◌≤◌, IfOk, IfErr, OnOk, map};
+ghost use Rattle.sc_base.specs.declared.limits.TheConstants.{LIMITS};
 ghost use Rattle.sc_core.specs.View.{plain_core, arguments_of};
 ghost use Rattle.sc_core.specs.ViewParts.{plain_core_arm};
-ghost use Rattle.sc_core.specs.ViewStatements.{plain_does, plain_function};
-ghost use Rattle.flow_form.specs.Accesses.{accesses_by_action};
+ghost use Rattle.sc_core.specs.ViewStatements.{plain_does, plain_function, plain_program};
+ghost use Rattle.flow_form.specs.Accesses.{accesses_by_action, accesses_of};
+ghost use Rattle.flow_form.specs.FlowOf.{IsCause};
 ghost use Rattle.flow_form.specs.Scans.{scanned, scan_more, scan_value, scan_values, scan_returns, scan_block, scan_arm, scan_arms, scan_from, function_scan, with_entry, with_function, whole_of};
 
 use crate::count::Count;
-use sc_core::{Action, CoreArm, CoreExpr, CoreFunction, CoreStmt};
+use crate::error::FlowError;
+use sc_base::LIMITS;
+use sc_core::{Action, CoreArm, CoreExpr, CoreFunction, CoreProgram, CoreStmt};
 use sqlite_items::Items;
 use std::alloc::{AllocError, Global};
 
@@ -221,6 +225,23 @@ pub fn entries_of(alloc: Global, functions: &[CoreFunction]) -> Result<Whole, Al
     };
     for f in functions {
         whole.function(alloc, f)?;
+    }
+    Ok(whole)
+}
+
+/// The functions of a source, where it has no more sites than the limit.
+pub fn scan_source(alloc: Global, program: &CoreProgram) -> Result<Whole, FlowError>
+    ensures whole { IfOk result (λ w. w ≡ whole_of (plain_program program.now).functions) }
+    ensures few { IfOk result (λ w. accesses_of (plain_program program.now) ≤ LIMITS.sites) }
+    ensures cause { IfErr result (λ e. IsCause e (plain_program program.now)) }
+{
+    let Ok(whole) = entries_of(alloc, program.functions.as_slice()) else {
+        return Err(FlowError::OutOfMemory);
+    };
+    if u64::from(whole.count.sites) > LIMITS.sites {
+        return Err(FlowError::TooManySites {
+            count: whole.count.sites,
+        });
     }
     Ok(whole)
 }
