@@ -5,6 +5,7 @@ pub mod Kept
 pub mod Counting
 pub mod Scanning
 pub mod Scanned
+pub mod Gathering
 mod Parts
 mod ExampleBranch
 mod ExampleCalls

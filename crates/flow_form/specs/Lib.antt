@@ -12,3 +12,4 @@ pub mod Walk
 pub mod Laws
 pub mod Counts
 pub mod Scans
+pub mod Gathers

@@ -3,6 +3,7 @@
 
 pub mod count;
 pub mod error;
+pub mod gather;
 pub mod laws;
 pub mod scan;
 
