@@ -6,6 +6,7 @@ pub mod Counting
 pub mod Scanning
 pub mod Scanned
 pub mod Gathering
+pub mod Sorting
 mod Parts
 mod ExampleBranch
 mod ExampleCalls

@@ -6,6 +6,7 @@ pub mod error;
 pub mod gather;
 pub mod laws;
 pub mod scan;
+pub mod sorted;
 
 pub use count::Count;
 pub use error::FlowError;
