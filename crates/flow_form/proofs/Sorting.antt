@@ -26,9 +26,9 @@ by_bool A true f g = f refl
 by_bool A false f g = g refl
 
 module _ {X : Type 0} (before : X → X → Bool)
-  (follows : (x y z : X) → before x y ≡ true → before y z ≡ true → before x z ≡ true)
-  (same : (x y : X) → before x y ≡ false → before y x ≡ false → x ≡ y)
-  (none : (x : X) → before x x ≡ false) where
+    (follows : (x y z : X) → before x y ≡ true → before y z ≡ true → before x z ≡ true)
+    (same : (x y : X) → before x y ≡ false → before y x ≡ false → x ≡ y)
+    (none : (x : X) → before x x ≡ false) where
   -- two rising lists of the same members are equal
   rises_same : (xs ys : List X) → Rises before xs → Rises before ys → ((z : X) → In z xs → In z ys) → ((z : X) → In z ys → In z xs)
       → xs ≡ ys
@@ -93,9 +93,10 @@ module _ {X : Type 0} (before : X → X → Bool)
         by_cond (λ zs. Rises before zs × Each (λ y. before y k ≡ false) zs) (E x k) (dedup E (k ∷ xs)) (k ∷ dedup E (x ∷ xs))
         (λ e. rises_from k xs (h.0.1, h.1.1))
         (λ e. let r = rises_from x xs h.1 in
-        let up = ahead k x e h.0.0 in
-        ((each_weaker (λ y. before y x ≡ false) (λ y. before k y ≡ true) (dedup E (x ∷ xs)) (λ y not. later k x y up not) r.1, r.0),
-        (none k, each_weaker (λ y. before y x ≡ false) (λ y. before y k ≡ false) (dedup E (x ∷ xs)) (λ y not. not_back k x y up not) r.1)))
+        let up = ahead k x e h.0.0 in (
+          (each_weaker (λ y. before y x ≡ false) (λ y. before k y ≡ true) (dedup E (x ∷ xs)) (λ y not. later k x y up not) r.1, r.0),
+          (none k, each_weaker (λ y. before y x ≡ false) (λ y. before y k ≡ false) (dedup E (x ∷ xs)) (λ y not. not_back k x y up not) r.1),
+        ))
       where
         not_back : (k x y : X) → before k x ≡ true → before y x ≡ false → before y k ≡ false
         not_back k x y up not = by_bool (before y k ≡ false) (before y k) (λ e. let t = follows y k x e up in absurd cc) (λ e. e)
@@ -142,9 +143,10 @@ module _ {X : Type 0} (before : X → X → Bool)
       where
         by_all : (xs : List X) → ((i j : ℕ) (d : X) → i ≤ j → j < length xs → before (get_or xs j d) (get_or xs i d) ≡ false) → Far xs
         by_all [] h = tt
-        by_all (x ∷ xs) h =
-            (recursion_from_All (λ y. before y x ≡ false) xs (λ k d lt. h 0 (suc k) d (omega arith) (omega arith)),
-            by_all xs (λ i j d le lt. h (suc i) (suc j) d (omega arith) (omega arith)))
+        by_all (x ∷ xs) h = (
+          recursion_from_All (λ y. before y x ≡ false) xs (λ k d lt. h 0 (suc k) d (omega arith) (omega arith)),
+          by_all xs (λ i j d le lt. h (suc i) (suc j) d (omega arith) (omega arith)),
+        )
 
     pub deduped : (xs ys : List X) → IsPermutation xs ys → IsSortedBy before ys → dedup E ys ≡ rising before xs
     deduped xs ys moved sorted =

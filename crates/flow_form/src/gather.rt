@@ -177,7 +177,9 @@ impl Wanted {
                 Ok(())
             }
             CoreStmt::Act {
-                action, arguments, ..
+                action,
+                arguments,
+                ..
             } => {
                 self.arguments(to, arguments.as_slice())?;
                 self.note(to, of_action(self, *action))?;

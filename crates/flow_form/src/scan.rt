@@ -97,7 +97,9 @@ impl Scan {
                 Ok(())
             }
             CoreStmt::Act {
-                action, arguments, ..
+                action,
+                arguments,
+                ..
             } => {
                 self.values(arguments.as_slice())?;
                 self.more(1, sites_by_action(*action))?;

@@ -9,13 +9,13 @@ use Rattle.flow_form.proofs.scan.scan_source.Goals as goal
 pub returns-then-from-clause-cause : goal.returns-then-from-clause-cause
 returns-then-from-clause-cause c =
     let is : c.in-Ok.whole ≡ whole_of (plain_program c.args.program.now).functions =
-        c.in-Ok.ensures ∙ ap (λ fs. whole_of (map plain_function fs)) c.as_slice.ensures in
+    c.in-Ok.ensures ∙ ap (λ fs. whole_of (map plain_function fs)) c.as_slice.ensures in
     let e = sites_of_whole c.in-Ok.whole (plain_program c.args.program.now) is in
     (omega arith, e)
 
 pub returns-clause-few : goal.returns-clause-few
 returns-clause-few c =
     let is : c.in-Ok.whole ≡ whole_of (plain_program c.args.program.now).functions =
-        c.in-Ok.ensures ∙ ap (λ fs. whole_of (map plain_function fs)) c.as_slice.ensures in
+    c.in-Ok.ensures ∙ ap (λ fs. whole_of (map plain_function fs)) c.as_slice.ensures in
     let e = sites_of_whole c.in-Ok.whole (plain_program c.args.program.now) is in
     omega arith

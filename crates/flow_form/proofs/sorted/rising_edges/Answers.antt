@@ -13,7 +13,7 @@ pub returns : goal.returns
 returns c =
     let key : Edge → ℕ × ℕ = λ e. (e.from, e.to) in
     let up : IsSortedBy (λ x y. is_lt (ordering_then (nat_cmp x.from y.from) (nat_cmp x.to y.to))) c.sort_unstable_by_key.new.self.items =
-        c.sort_unstable_by_key.ensures.sorted key (always_returns_same _ (λ a r. r ≡ key a.0.now) _ (λ a r q k. search rules)) in
+    c.sort_unstable_by_key.ensures.sorted key (always_returns_same _ (λ a r. r ≡ key a.0.now) _ (λ a r q k. search rules)) in
     c.from_vec.ensures ∙ dedup_is _ _ _ c.dedup.ensures.filtered
     ∙ deduped edge_before edges_follow edges_same edge_none (λ x y. (x.from == y.from) && (x.to == y.to)) edge_ties edge_itself
     c.args.edges.items c.sort_unstable_by_key.new.self.items c.sort_unstable_by_key.ensures.permutation
