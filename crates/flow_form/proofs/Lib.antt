@@ -1,3 +1,12 @@
+pub mod Run
+pub mod Rises
+pub mod Good
+pub mod Kept
+pub mod Counting
+pub mod Scanning
+pub mod Scanned
+pub mod Gathering
+pub mod Sorting
 mod Parts
 mod ExampleBranch
 mod ExampleCalls

@@ -10,3 +10,6 @@ pub mod Statements
 pub mod FlowOf
 pub mod Walk
 pub mod Laws
+pub mod Counts
+pub mod Scans
+pub mod Gathers
