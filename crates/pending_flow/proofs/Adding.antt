@@ -1,13 +1,11 @@
 -- First demands, site after site.
-use Rattle.std.proofs.Common.{◌≡◌, ◌⊎◌, ◌↔◌, ℕ, suc, ◌+◌, ◌<◌, ◌≤◌, List, Some, length, get_or, refl, sym, ap, ◌∙◌, subst, inl, inr, ⊎_elim, arith}
-use Rattle.std.specs.List.{slice_get}
+use Rattle.std.proofs.Common.{◌≡◌, ℕ, ◌+◌, ◌<◌, ◌≤◌, List, Some, length, get_or, sym, ap, ◌∙◌, subst, inl, inr, ⊎_elim, arith}
 use Rattle.std.specs.Option.{option_map_or}
 use Rattle.std.proofs.lemmas.Bool.{cases_eq, cases_lt}
-use Rattle.std.proofs.lemmas.Option.{slice_get_within, slice_get_past, slice_get-get_or}
+use Rattle.std.proofs.lemmas.Option.{slice_get_past, slice_get-get_or}
 use Rattle.effect_order.specs.Flow.{LeadsBy}
 use Rattle.site_graph.specs.declared.point.Point.{Point}
-use Rattle.site_graph.specs.declared.point.PointKind.{PointKind}
-use Rattle.site_graph.specs.declared.point.PointKind.TheVariants.{Start, Plain, Access}
+use Rattle.site_graph.specs.declared.point.PointKind.TheVariants.{Plain, Access}
 use Rattle.site_graph.specs.Bits.{Bits, IsSet, IsOf, IsWithCommon, no_bits}
 use Rattle.site_graph.specs.Graph.{Graph, kind_at, IsAt}
 use Rattle.site_graph.specs.Kept.{IsFlow}

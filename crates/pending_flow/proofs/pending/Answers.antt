@@ -1,4 +1,4 @@
-use Rattle.std.proofs.Common.{◌≡◌, ◌+◌, List, length, sym, ap, subst, ◌∙◌, arith}
+use Rattle.std.proofs.Common.{◌+◌, List, length, sym, ap, subst, ◌∙◌, arith}
 use Rattle.site_graph.specs.declared.point.Point.{Point}
 use Rattle.site_graph.specs.Graph.{Graph}
 use Rattle.site_graph.specs.Kept.{IsFlow}
