@@ -8,3 +8,4 @@ pub mod BitWords
 pub mod Reached
 pub mod Plans
 pub mod Opened
+pub mod Made

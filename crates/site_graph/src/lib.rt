@@ -5,6 +5,7 @@
 pub mod bit_rows;
 pub mod flow;
 pub mod laws;
+mod making;
 pub mod plan;
 pub mod point;
 pub mod reaching;
