@@ -11,3 +11,5 @@ pub mod Walks
 pub mod Carries
 pub mod Oracles
 pub mod Law
+pub mod Drafts
+pub mod Ops

@@ -1,2 +1,8 @@
 //! The code of a source: its core tree in instructions, under a plan of waits.
 #![tactic(auto)]
+
+mod draft;
+mod error;
+mod steps;
+
+pub use error::EmitError;
