@@ -1,1 +1,5 @@
 pub mod Patches
+pub mod Views
+pub mod Lengths
+pub mod Emitted
+pub mod Choices

@@ -79,8 +79,8 @@ taken_back plan (Some operation) line d = stepped plan operation line (put (Push
 unfoldable pub tested : Plan → (of_pointer : Bool) → Written → Written
 tested plan of_pointer d = ran plan 0 (test_ops of_pointer 0) d
 
-unfoldable pub turned : (zero : ℕ) → Written → Written
-turned zero d = led zero (instr 0 (Zero (length d.instrs + 1))) (put (Jump 0) d)
+unfoldable pub turned : (place : ℕ) → Written → Written
+turned place d = led place (instr 0 (Zero (length d.instrs + 1))) (put (Jump 0) d)
 
 -- the jumps lead to what comes next
 unfoldable pub ended : List ℕ → Written → Written

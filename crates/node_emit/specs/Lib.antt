@@ -13,3 +13,4 @@ pub mod Oracles
 pub mod Law
 pub mod Drafts
 pub mod Ops
+pub mod Drafted

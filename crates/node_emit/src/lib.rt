@@ -4,5 +4,6 @@
 mod draft;
 mod error;
 mod steps;
+mod values;
 
 pub use error::EmitError;
