@@ -30,7 +30,7 @@ unfolding test_front
 test-run plan t true target = simp append_assoc refl
 test-run plan t false target = simp append_assoc refl
 
-length-test_run : (plan : Plan) (t : ℕ) (of_pointer : Bool) (target : ℕ) →
+pub length-test_run : (plan : Plan) (t : ℕ) (of_pointer : Bool) (target : ℕ) →
     length (run plan t 0 (test_ops of_pointer target)) ≡ run_width plan t (test_width of_pointer)
 length-test_run plan t of_pointer target = simp (length-append, length-map) (omega (arith, length-test))
 
@@ -53,7 +53,7 @@ choice-lists xs ct r on off z z' j j' at jump f g =
     ∙ simp append_assoc refl
 
 -- any two branches behind any test
-choice-wrote : (plan : Plan) (of_pointer : Bool) (test on off : ℕ → ℕ → ℕ → List Instr) (pt st pn sn pf sf wt wn wf : ℕ) (d : Written) →
+pub choice-wrote : (plan : Plan) (of_pointer : Bool) (test on off : ℕ → ℕ → ℕ → List Instr) (pt st pn sn pf sf wt wn wf : ℕ) (d : Written) →
     length (test d.point d.sites (length d.instrs)) ≡ wt →
     ((s pc : ℕ) → length (on (d.point + pt + 1) s pc) ≡ wn) →
     ((s pc : ℕ) → length (off (d.point + pt + 1 + pn) s pc) ≡ wf) →

@@ -3,3 +3,5 @@ pub mod Views
 pub mod Lengths
 pub mod Emitted
 pub mod Choices
+pub mod Loops
+pub mod Deeds

@@ -14,3 +14,4 @@ pub mod Law
 pub mod Drafts
 pub mod Ops
 pub mod Drafted
+pub mod Done
