@@ -165,6 +165,27 @@ ended-last jumps jump d =
     led_all-last jumps jump (length d.instrs) d
     ∙ ap (λ n. led_all jumps n (led jump (outside (Jump (length d.instrs))) d)) (sym (length-led jump (outside (Jump (length d.instrs))) d))
 
+led-led_all : (jumps : List ℕ) (target jump : ℕ) (i : Instr) (d : Written) → i ≡ outside (Jump target) →
+    led_all jumps target (led jump i d) ≡ led jump i (led_all jumps target d)
+unfolding led_all
+led-led_all [] target jump i d h = refl
+led-led_all (a ∷ more) target jump i d h =
+    ap (λ x. led_all more target (led a x (led jump i d))) (sym h)
+    ∙ ap (led_all more target) (led-led jump a i d)
+    ∙ led-led_all more target jump i (led a i d) h
+    ∙ ap (λ x. led jump i (led_all more target (led a x d))) h
+
+length-led_all : (jumps : List ℕ) (target : ℕ) (d : Written) → length (led_all jumps target d).instrs ≡ length d.instrs
+unfolding led_all
+length-led_all [] target d = refl
+length-led_all (a ∷ more) target d = length-led_all more target (led a (outside (Jump target)) d) ∙ length-led a (outside (Jump target)) d
+
+pub ended-first : (jump : ℕ) (jumps : List ℕ) (d : Written) → ended (jump ∷ jumps) d ≡ ended (jump ∷ []) (ended jumps d)
+unfolding ended led_all
+ended-first jump jumps d =
+    led-led_all jumps (length d.instrs) jump (outside (Jump (length d.instrs))) d refl
+    ∙ ap (λ n. led jump (outside (Jump n)) (led_all jumps (length d.instrs) d)) (sym (length-led_all jumps (length d.instrs) d))
+
 -- ---- operands of `&&` and `||`
 
 pub shut-is : (place : ℕ) (d : Written) → shut place d ≡ ended (length d.instrs ∷ []) (put (Push (pos 0)) (turned place d))

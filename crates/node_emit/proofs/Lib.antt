@@ -5,3 +5,4 @@ pub mod Emitted
 pub mod Choices
 pub mod Loops
 pub mod Deeds
+pub mod Turns

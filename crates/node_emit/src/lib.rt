@@ -4,6 +4,7 @@
 mod draft;
 mod error;
 mod steps;
+mod statements;
 mod values;
 
 pub use error::EmitError;

@@ -24,7 +24,7 @@ pub struct Ops {
     pub second: Option<Op>,
 }
 
-fn one(first: Op) -> Ops
+pub fn one(first: Op) -> Ops
     ensures { list_of result ≡ first ∷ [] }
 {
     Ops {
