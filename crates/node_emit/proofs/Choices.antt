@@ -72,7 +72,7 @@ choice-wrote plan p test on off pt st pn sn pf sf wt wn wf d ht hn hf at_on at_o
     let r0 : List Instr = run plan t 0 (test_ops p 0) in
     let D1 : List Instr = d.instrs ++ c0 ++ r0 in
     let l1 : length D1 ≡ at_on =
-        simp length-append (let a = length-test_run plan t p 0 in let b = simp length-append at a in omega (arith, ht, h1, b)) in
+    simp length-append (let a = length-test_run plan t p 0 in let b = simp length-append at a in omega (arith, ht, h1, b)) in
     let z : Instr = instr 0 (Zero 0) in
     let j : Instr = outside (Jump 0) in
     let C1 : List Instr = on (t + 1) (d.sites + st + 0) (length D1) in
@@ -82,27 +82,27 @@ choice-wrote plan p test on off pt st pn sn pf sf wt wn wf d ht hn hf at_on at_o
     let D2 : List Instr = D1 ++ C1 in
     let z1 : Instr = instr 0 (Zero (length D2 + 1)) in
     let l2 : length D2 + 1 ≡ at_off =
-        let a = length-append D1 C1 in let b = hn (d.sites + st + 0) (length D1) in omega (arith, a, b, l1, h2) in
+    let a = length-append D1 C1 in let b = hn (d.sites + st + 0) (length D1) in omega (arith, a, b, l1, h2) in
     let D3 : List Instr = set (D2 ++ j ∷ []) (length D1 - 1) z1 in
     let l3 : length D3 ≡ at_off =
-        let a = length-set (D2 ++ j ∷ []) (length D1 - 1) z1 in let b = length-append D2 (j ∷ []) in omega (arith, a, b, l2) in
+    let a = length-set (D2 ++ j ∷ []) (length D1 - 1) z1 in let b = length-append D2 (j ∷ []) in omega (arith, a, b, l2) in
     let F1 : List Instr = off (t + 1 + pn + 0) (d.sites + st + 0 + sn + 0) (length D3) in
     let F0 : List Instr = off (t + 1 + pn) (d.sites + st + sn) at_off in
     let p2 : t + 1 + pn + 0 ≡ t + 1 + pn = omega arith in
     let s2 : d.sites + st + 0 + sn + 0 ≡ d.sites + st + sn = omega arith in
     let e2 : F1 ≡ F0 =
-        ap (λ k. off k (d.sites + st + 0 + sn + 0) (length D3)) p2 ∙ ap (λ s. off (t + 1 + pn) s (length D3)) s2
-        ∙ ap (off (t + 1 + pn) (d.sites + st + sn)) l3 in
+    ap (λ k. off k (d.sites + st + 0 + sn + 0) (length D3)) p2 ∙ ap (λ s. off (t + 1 + pn) s (length D3)) s2
+    ∙ ap (off (t + 1 + pn) (d.sites + st + sn)) l3 in
     let l4 : length (D3 ++ F1) ≡ end =
-        let a = length-append D3 F1 in let b = ap length e2 in let c = hf (d.sites + st + sn) at_off in
-        omega (arith, a, b, c, l3, h3) in
+    let a = length-append D3 F1 in let b = ap length e2 in let c = hf (d.sites + st + sn) at_off in
+    omega (arith, a, b, c, l3, h3) in
     let r : List Instr = test_front plan t p in
     let e0 : r0 ≡ r ++ z ∷ [] = test-run plan t p 0 in
     let j1 : Instr = outside (Jump (length (D3 ++ F1))) in
     let f : length D1 - 1 + 1 ≡ length ((d.instrs ++ c0) ++ (r ++ z ∷ [])) =
-        let a : length D1 ≡ length ((d.instrs ++ c0) ++ (r ++ z ∷ [])) = ap (λ q. length ((d.instrs ++ c0) ++ q)) e0 in
-        let b = length-append (d.instrs ++ c0) (r ++ z ∷ []) in let c = length-append r (z ∷ []) in
-        omega (arith, a, b, c) in
+    let a : length D1 ≡ length ((d.instrs ++ c0) ++ (r ++ z ∷ [])) = ap (λ q. length ((d.instrs ++ c0) ++ q)) e0 in
+    let b = length-append (d.instrs ++ c0) (r ++ z ∷ []) in let c = length-append r (z ∷ []) in
+    omega (arith, a, b, c) in
     let g : length D2 ≡ length (((d.instrs ++ c0) ++ (r ++ z ∷ [])) ++ C1) = ap (λ q. length (((d.instrs ++ c0) ++ q) ++ C1)) e0 in
     sym
     (ap (λ q. set (set ((((d.instrs ++ c0) ++ q) ++ C1) ++ j ∷ []) (length D1 - 1) z1 ++ F1) (length D2) j1) e0

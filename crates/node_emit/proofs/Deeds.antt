@@ -38,7 +38,7 @@ pub done-then : (plan : Plan) (a b : Does) (d : Written) → done plan (then_ a 
 unfolding done grown
 done-then plan a b d =
     let h : length (d.instrs ++ code_in plan a d.point d.sites 0 0 (length d.instrs)) ≡ length d.instrs + width_in plan a d.point =
-        simp length-append (omega (arith, length-in plan a)) in
+    simp length-append (omega (arith, length-in plan a)) in
     written-same _ _ (rw h (sym (append_assoc d.instrs _ _))) (omega arith) (omega arith)
 
 pub done-act : (plan : Plan) (action : Action) (all : Arguments) (line : ℕ) (d : Written) →
@@ -118,7 +118,7 @@ pub breaks-then : (plan : Plan) (a b : Does) (d : Written) → breaks_of plan (t
 unfolding breaks_of done grown
 breaks-then plan a b d =
     let h : length (d.instrs ++ code_in plan a d.point d.sites 0 0 (length d.instrs)) ≡ length d.instrs + width_in plan a d.point =
-        simp length-append (omega (arith, length-in plan a)) in
+    simp length-append (omega (arith, length-in plan a)) in
     ap (λ n. breaks_in plan a d.point (length d.instrs) ++ breaks_in plan b (d.point + size_of a) n) (sym h)
 
 breaks-choose : (plan : Plan) (of_pointer : Bool) (test : Core) (on off : Does) (d : Written) →
@@ -137,7 +137,7 @@ breaks-choose plan p test on off d =
     let e3 : E.point ≡ t + 1 + size_of on = let a = turned-point plan (length D.instrs - 1) on D in omega (arith, a, e1) in
     let w : width_in plan on D.point ≡ width_in plan on (t + 1) = ap (width_in plan on) e1 in
     let e4 : length E.instrs ≡ at_on + width_in plan on (t + 1) + 1 =
-        let a = turned-length plan (length D.instrs - 1) on D in omega (arith, a, e2, w) in
+    let a = turned-length plan (length D.instrs - 1) on D in omega (arith, a, e2, w) in
     ap (λ c. c ++ breaks_in plan off (t + 1 + size_of on) (at_on + width_in plan on (t + 1) + 1))
     (sym (breaks_in-same plan on _ _ _ _ e1 e2))
     ∙ ap (λ c. breaks_in plan on D.point (length D.instrs) ++ c) (sym (breaks_in-same plan off _ _ _ _ e3 e4))
@@ -188,7 +188,7 @@ pub continues-then : (plan : Plan) (a b : Does) (d : Written) → continues_of p
 unfolding continues_of done grown
 continues-then plan a b d =
     let h : length (d.instrs ++ code_in plan a d.point d.sites 0 0 (length d.instrs)) ≡ length d.instrs + width_in plan a d.point =
-        simp length-append (omega (arith, length-in plan a)) in
+    simp length-append (omega (arith, length-in plan a)) in
     ap (λ n. continues_in plan a d.point (length d.instrs) ++ continues_in plan b (d.point + size_of a) n) (sym h)
 
 continues-choose : (plan : Plan) (of_pointer : Bool) (test : Core) (on off : Does) (d : Written) →
@@ -207,7 +207,7 @@ continues-choose plan p test on off d =
     let e3 : E.point ≡ t + 1 + size_of on = let a = turned-point plan (length D.instrs - 1) on D in omega (arith, a, e1) in
     let w : width_in plan on D.point ≡ width_in plan on (t + 1) = ap (width_in plan on) e1 in
     let e4 : length E.instrs ≡ at_on + width_in plan on (t + 1) + 1 =
-        let a = turned-length plan (length D.instrs - 1) on D in omega (arith, a, e2, w) in
+    let a = turned-length plan (length D.instrs - 1) on D in omega (arith, a, e2, w) in
     ap (λ c. c ++ continues_in plan off (t + 1 + size_of on) (at_on + width_in plan on (t + 1) + 1))
     (sym (continues_in-same plan on _ _ _ _ e1 e2))
     ∙ ap (λ c. continues_in plan on D.point (length D.instrs) ++ c) (sym (continues_in-same plan off _ _ _ _ e3 e4))

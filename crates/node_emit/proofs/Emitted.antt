@@ -49,7 +49,7 @@ pub all-on : (plan : Plan) (e : Core) (more : Arguments) (d : Written) →
 unfolding emitted_all emitted grown
 all-on plan e more d =
     let h : length (d.instrs ++ code plan e d.point d.sites (length d.instrs)) ≡ length d.instrs + width plan e d.point =
-        simp length-append (omega (arith, length-code plan e)) in
+    simp length-append (omega (arith, length-code plan e)) in
     written-same _ _ (rw h (sym (append_assoc d.instrs _ _))) (omega arith) (omega arith)
 
 pub chained-none : (plan : Plan) (d : Written) → chained plan [] d ≡ d
@@ -148,15 +148,15 @@ emitted-update plan pointer operation right back line d =
     let g0 : emitted plan pointer d ≡ grown d cp p a = emitted-is plan pointer d in
     let g1 : put Dup (emitted plan pointer d) ≡ grown d x1 p a = ap (put Dup) g0 ∙ put-grown Dup d cp p a in
     let g2 : stepped plan Read line (put Dup (emitted plan pointer d)) ≡ grown d x2 (p + 1) (a + 1) =
-        ap (stepped plan Read line) g1 ∙ stepped-grown plan Read line d x1 p a in
+    ap (stepped plan Read line) g1 ∙ stepped-grown plan Read line d x1 p a in
     let g3 : emitted plan right (stepped plan Read line (put Dup (emitted plan pointer d))) ≡ grown d x3 (p + 1 + size right) (a + 1 + accesses right) =
-        ap (emitted plan right) g2 ∙ emitted-grown plan right d x2 (p + 1) (a + 1) in
+    ap (emitted plan right) g2 ∙ emitted-grown plan right d x2 (p + 1) (a + 1) in
     let g4 : stepped plan operation line (emitted plan right (stepped plan Read line (put Dup (emitted plan pointer d))))
-        ≡ grown d x4 (p + 1 + size right + 1) (a + 1 + accesses right + accesses_by operation) =
-        ap (stepped plan operation line) g3 ∙ stepped-grown plan operation line d x3 _ _ in
+    ≡ grown d x4 (p + 1 + size right + 1) (a + 1 + accesses right + accesses_by operation) =
+    ap (stepped plan operation line) g3 ∙ stepped-grown plan operation line d x3 _ _ in
     let g5 : stepped plan Write line (stepped plan operation line (emitted plan right (stepped plan Read line (put Dup (emitted plan pointer d)))))
-        ≡ grown d x5 (p + 1 + size right + 1 + 1) (a + 1 + accesses right + accesses_by operation + 1) =
-        ap (stepped plan Write line) g4 ∙ stepped-grown plan Write line d x4 _ _ in
+    ≡ grown d x5 (p + 1 + size right + 1 + 1) (a + 1 + accesses right + accesses_by operation + 1) =
+    ap (stepped plan Write line) g4 ∙ stepped-grown plan Write line d x4 _ _ in
     let g6 = ap (taken_back plan back line) g5 ∙ back-grown plan back line d x5 _ _ in
     let at_right : ℕ = pc + width plan pointer k + 1 + run_width plan t 1 in
     let n1 : pc + length x2 ≡ at_right = simp (length-append, length-map) (omega (arith, length-code plan pointer)) in

@@ -6,3 +6,4 @@ pub mod Choices
 pub mod Loops
 pub mod Deeds
 pub mod Turns
+pub mod Sources

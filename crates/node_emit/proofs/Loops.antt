@@ -97,11 +97,11 @@ breaks-set plan (choose of_pointer test on off) k n out again pc xs ys h =
     let e : List Instr = code_in plan off (t + 1 + size_of on) (s' + accesses_in on) 0 again at_off in
     let e' : List Instr = code_in plan off (t + 1 + size_of on) (s' + accesses_in on) out again at_off in
     let l1 : length ((xs ++ ct) ++ r) ≡ at_on =
-        simp (length-append, length-map) (omega (arith, length-code plan test, length-test, h)) in
+    simp (length-append, length-map) (omega (arith, length-code plan test, length-test, h)) in
     let l2 : length ((((xs ++ ct) ++ r) ++ c') ++ outside (Jump end) ∷ []) ≡ at_off =
-        let a = length-append (((xs ++ ct) ++ r) ++ c') (outside (Jump end) ∷ []) in
-        let b = length-append ((xs ++ ct) ++ r) c' in
-        omega (arith, a, b, l1, length-in plan on) in
+    let a = length-append (((xs ++ ct) ++ r) ++ c') (outside (Jump end) ∷ []) in
+    let b = length-append ((xs ++ ct) ++ r) c' in
+    omega (arith, a, b, l1, length-in plan on) in
     branches-set (breaks_in plan on (t + 1) at_on) (breaks_in plan off (t + 1 + size_of on) at_off) out xs ct r c c'
     (outside (Jump end)) e e' ys
     (λ zs. breaks-set plan on (t + 1) s' out again at_on ((xs ++ ct) ++ r) zs l1)
@@ -142,11 +142,11 @@ continues-set plan (choose of_pointer test on off) k n out again pc xs ys h =
     let e : List Instr = code_in plan off (t + 1 + size_of on) (s' + accesses_in on) out 0 at_off in
     let e' : List Instr = code_in plan off (t + 1 + size_of on) (s' + accesses_in on) out again at_off in
     let l1 : length ((xs ++ ct) ++ r) ≡ at_on =
-        simp (length-append, length-map) (omega (arith, length-code plan test, length-test, h)) in
+    simp (length-append, length-map) (omega (arith, length-code plan test, length-test, h)) in
     let l2 : length ((((xs ++ ct) ++ r) ++ c') ++ outside (Jump end) ∷ []) ≡ at_off =
-        let a = length-append (((xs ++ ct) ++ r) ++ c') (outside (Jump end) ∷ []) in
-        let b = length-append ((xs ++ ct) ++ r) c' in
-        omega (arith, a, b, l1, length-in plan on) in
+    let a = length-append (((xs ++ ct) ++ r) ++ c') (outside (Jump end) ∷ []) in
+    let b = length-append ((xs ++ ct) ++ r) c' in
+    omega (arith, a, b, l1, length-in plan on) in
     branches-set (continues_in plan on (t + 1) at_on) (continues_in plan off (t + 1 + size_of on) at_off) again xs ct r c c'
     (outside (Jump end)) e e' ys
     (λ zs. continues-set plan on (t + 1) s' out again at_on ((xs ++ ct) ++ r) zs l1)
@@ -166,7 +166,7 @@ continues-set plan (loop mine before body after) k n out again pc xs ys h =
     let e : List Instr = code_in plan after u (s_body + accesses_in body) end 0 at_after in
     let e' : List Instr = code_in plan after u (s_body + accesses_in body) end again at_after in
     let l : length ((xs ++ c') ++ (r ++ b)) ≡ at_after =
-        simp (length-append, length-map) (omega (arith, length-in plan before, length-in plan body, h)) in
+    simp (length-append, length-map) (omega (arith, length-in plan before, length-in plan body, h)) in
     ap (sets (continues_in plan before k pc ++ continues_in plan after u at_after) again)
     (let h : xs ++ (((((c ++ r) ++ b) ++ e) ++ outside (Jump pc) ∷ []) ++ ys) ≡ xs ++ (((c ++ (r ++ b)) ++ e) ++ outside (Jump pc) ∷ ys) = simp append_assoc refl in h)
     ∙ two-set (continues_in plan before k pc) (continues_in plan after u at_after) again xs c c' (r ++ b) e e' (outside (Jump pc) ∷ ys)

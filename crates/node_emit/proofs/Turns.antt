@@ -24,7 +24,7 @@ done-is : (plan : Plan) (s : Does) (d : Written) →
 unfolding done
 done-is plan s d = refl
 
-done-grown : (plan : Plan) (s : Does) (d : Written) (xs : List Instr) (p q : ℕ) →
+pub done-grown : (plan : Plan) (s : Does) (d : Written) (xs : List Instr) (p q : ℕ) →
     done plan s (grown d xs p q)
     ≡ grown d (xs ++ code_in plan s (d.point + p) (d.sites + q) 0 0 (length d.instrs + length xs)) (p + size_of s) (q + accesses_in s)
 unfolding done grown
@@ -34,7 +34,7 @@ done-grown plan s d xs p q =
     (append_assoc d.instrs xs _ ∙ ap (λ n. d.instrs ++ (xs ++ code_in plan s (d.point + p) (d.sites + q) 0 0 n)) h)
     (omega arith) (omega arith)
 
-ran-grown : (plan : Plan) (line : ℕ) (ops : List Op) (d : Written) (xs : List Instr) (p q : ℕ) →
+pub ran-grown : (plan : Plan) (line : ℕ) (ops : List Op) (d : Written) (xs : List Instr) (p q : ℕ) →
     ran plan line ops (grown d xs p q) ≡ grown d (xs ++ run plan (d.point + p) line ops) (p + 1) q
 unfolding ran grown
 ran-grown plan line ops d xs p q = written-same _ _ (append_assoc d.instrs xs _) (omega arith) (omega arith)
@@ -60,7 +60,7 @@ continues-is : (plan : Plan) (s : Does) (d : Written) → continues_of plan s d 
 unfolding continues_of
 continues-is plan s d = refl
 
-code_in-same : (plan : Plan) (s : Does) (k k' n n' pc pc' : ℕ) → k ≡ k' → n ≡ n' → pc ≡ pc' →
+pub code_in-same : (plan : Plan) (s : Does) (k k' n n' pc pc' : ℕ) → k ≡ k' → n ≡ n' → pc ≡ pc' →
     code_in plan s k n 0 0 pc ≡ code_in plan s k' n' 0 0 pc'
 code_in-same plan s k k' n n' pc pc' a b c =
     ap (λ x. code_in plan s x n 0 0 pc) a ∙ ap (λ x. code_in plan s k' x 0 0 pc) b ∙ ap (λ x. code_in plan s k' n' 0 0 x) c
@@ -99,28 +99,40 @@ body_put plan before body d =
 module _ (plan : Plan) (before body after : Does) (d : Written) where
   abbrev k : ℕ
   k = d.point
+
   abbrev n : ℕ
   n = d.sites
+
   abbrev pc : ℕ
   pc = length d.instrs
+
   abbrev t : ℕ
   t = d.point + size_of before
+
   abbrev u : ℕ
   u = d.point + size_of before + 1 + size_of body
+
   abbrev at_body : ℕ
   at_body = length d.instrs + width_in plan before d.point + run_width plan (d.point + size_of before) 1
+
   abbrev at_after : ℕ
   at_after = at_body + width_in plan body (t + 1)
+
   abbrev end : ℕ
   end = at_after + width_in plan after u + 1
+
   abbrev c1 : List Instr
   c1 = code_in plan before k n 0 0 pc
+
   abbrev r : List Instr
   r = run plan t 0 (Turn ∷ [])
+
   abbrev c2 : List Instr
   c2 = code_in plan body (t + 1) (n + accesses_in before) 0 0 at_body
+
   abbrev c2on : List Instr
   c2on = code_in plan body (t + 1) (n + accesses_in before) 0 at_after at_body
+
   abbrev c3 : List Instr
   c3 = code_in plan after u (n + accesses_in before + accesses_in body) 0 0 at_after
 
@@ -209,8 +221,10 @@ module _ (plan : Plan) (before body after : Does) (d : Written) where
 
   abbrev c1out : List Instr
   c1out = code_in plan before k n end 0 pc
+
   abbrev c2out : List Instr
   c2out = code_in plan body (t + 1) (n + accesses_in before) end at_after at_body
+
   abbrev c3out : List Instr
   c3out = code_in plan after u (n + accesses_in before + accesses_in body) end 0 at_after
 
@@ -219,9 +233,9 @@ module _ (plan : Plan) (before body after : Does) (d : Written) where
       ≡ d.instrs ++ ((((c1out ++ r) ++ c2out) ++ c3out) ++ outside (Jump pc) ∷ [])
   out-set =
       let l1 : length ((d.instrs ++ c1out) ++ r) ≡ at_body =
-          simp (length-append, length-map) (omega (arith, length-in plan before)) in
+      simp (length-append, length-map) (omega (arith, length-in plan before)) in
       let l2 : length (((d.instrs ++ c1out) ++ r) ++ c2out) ≡ at_after =
-          let a = length-append ((d.instrs ++ c1out) ++ r) c2out in omega (arith, a, l1, length-in plan body) in
+      let a = length-append ((d.instrs ++ c1out) ++ r) c2out in omega (arith, a, l1, length-in plan body) in
       three-set (breaks_in plan before k pc) (breaks_in plan body (t + 1) at_body) (breaks_in plan after u at_after) end
       d.instrs c1 c1out r c2on c2out c3 c3out (outside (Jump pc))
       (λ zs. breaks-set plan before k n end 0 pc d.instrs zs refl)

@@ -15,3 +15,4 @@ pub mod Drafts
 pub mod Ops
 pub mod Drafted
 pub mod Done
+pub mod Whole

@@ -3,8 +3,10 @@
 
 mod draft;
 mod error;
-mod steps;
 mod statements;
+mod steps;
 mod values;
+mod whole;
 
 pub use error::EmitError;
+pub use whole::emit;

@@ -123,6 +123,17 @@ pub fn constant_op(constant: Constant) -> Op
     }
 }
 
+/// What a function of this result gives without a value.
+pub fn zero_of(ty: &Ty) -> Constant
+    ensures { result ≡ statements.zero_of ty.now }
+{
+    if ty.stars.as_slice().is_empty() {
+        Constant::Number(0)
+    } else {
+        Constant::Null
+    }
+}
+
 /// How many accesses the operation itself makes.
 fn accesses_by(operation: Operation) -> u32
     ensures { result ≡ sites.accesses_by operation }
@@ -196,12 +207,7 @@ impl Emitter<'_> {
 
     /// The step of an operation.
     #[tactic(auto, using(std::proofs::lemmas::Grind::common_steps, crate::proofs::Patches::steps))]
-    pub fn step(
-        &self,
-        draft: &mut Draft,
-        operation: Operation,
-        line: u32,
-    ) -> Result<(), AllocError>
+    pub fn step(&self, draft: &mut Draft, operation: Operation, line: u32) -> Result<(), AllocError>
         ensures { OnOk result (draft.new ≡ stepped self.now.plan.now operation line draft.old) }
     {
         let site = added(draft.sites(), 1)?;
