@@ -12,3 +12,8 @@ pub mod Carries
 pub mod Oracles
 pub mod Law
 pub mod Forgotten
+pub mod Drafts
+pub mod Ops
+pub mod Drafted
+pub mod Done
+pub mod Whole

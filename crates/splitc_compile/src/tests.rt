@@ -2,6 +2,7 @@
 
 mod calls;
 mod declarations;
+mod emitted;
 mod expressions;
 mod lowered;
 mod order;

@@ -205,7 +205,7 @@ fn mine_word(mine: Option<u32>) -> &'static str {
 }
 
 /// The core tree of the source, or None where it is refused.
-fn core_of(rt: &HostRuntime, source: &str) -> Result<Option<CoreProgram>, Fail> {
+pub fn core_of(rt: &HostRuntime, source: &str) -> Result<Option<CoreProgram>, Fail> {
     let bytes = source.as_bytes();
     if bytes.len() > 262144 {
         return Ok(None);
