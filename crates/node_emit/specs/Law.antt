@@ -50,24 +50,32 @@ pub record DoesAsSource (told : Oracle → Story) (played : Oracle → (many : �
   pub whole : (oracle : Oracle) → (told oracle).end ≢ Short → (enough : ℕ) × ((many : ℕ) → enough ≤ many → played oracle many ≡ told oracle)
   -- with fewer it begins the source's
   pub begins : (oracle : Oracle) (many : ℕ) → (told oracle).end ≢ Short → IsBegun (played oracle many) (told oracle)
-  -- what the source shows the code shows too, with enough instructions
-  pub reaches : (oracle : Oracle) → (enough : ℕ) × ((many : ℕ) → enough ≤ many
-      → IsFront (told oracle).events (played oracle many).events × IsFront (told oracle).text (played oracle many).text)
   -- and both agree as far as both go
   pub agree : (oracle : Oracle) (many : ℕ) → Agree (played oracle many).events (told oracle).events
   pub texts_agree : (oracle : Oracle) (many : ℕ) → Agree (played oracle many).text (told oracle).text
 
+-- what the source shows the code shows too, with enough instructions
+abbrev pub Reaches : (told : Oracle → Story) → (played : Oracle → (many : ℕ) → Story) → Type 0
+Reaches told played =
+    (oracle : Oracle) → (enough : ℕ) × ((many : ℕ) → enough ≤ many
+    → IsFront (told oracle).events (played oracle many).events × IsFront (told oracle).text (played oracle many).text)
+
 abbrev pub told_of : Arrangement → Program → (node budget : ℕ) → Oracle → Story
 told_of layout program node budget oracle =
     tells oracle (is_empty program) told_at_first (pointed (record { layout = layout; node = node; program = program }) budget)
+
+abbrev pub played_of : Arrangement → Program → Plan → Code → List Piece → (between : ℕ → ℕ → List ℕ) → (node budget : ℕ) → Oracle → (many : ℕ) → Story
+played_of layout program plan code pieces between node budget oracle many =
+    plays oracle (is_empty program) at_first (code_points code layout plan pieces between node budget many)
 
 -- what the code of a source is
 pub record IsEmitted (layout : Arrangement) (program : Program) (plan : Plan) (code : Code) : Type 0 where
   pub sound : IsSound code layout
   pub carries : Carries code layout (flow_of layout.nodes program) plan
   pub does : (node budget : ℕ) → node < layout.nodes
-      → DoesAsSource (told_of layout program node budget)
-      (λ oracle many. plays oracle (is_empty program) at_first (code_points code layout plan carries.pieces carries.between node budget many))
+      → DoesAsSource (told_of layout program node budget) (played_of layout program plan code carries.pieces carries.between node budget)
+  pub reaches : (node budget : ℕ) → node < layout.nodes
+      → Reaches (told_of layout program node budget) (played_of layout program plan code carries.pieces carries.between node budget)
 
 -- the node begins in the function with the number that the source says
 abbrev pub BeginsInMain : Program → Code → Type 0
