@@ -1,0 +1,2 @@
+pub mod PlainPlans
+pub mod Parts
