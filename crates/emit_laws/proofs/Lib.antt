@@ -1,2 +1,3 @@
 pub mod PlainPlans
 pub mod Parts
+pub mod Ghosts

@@ -21,6 +21,7 @@ use Rattle.flow_form.specs.Exits.{fetched, fetched_all, fetched_by, behind, exit
 use Rattle.flow_form.specs.Steps.{callee_of}
 use Rattle.node_emit.specs.Runs.{instr, outside, constant_op, test_ops}
 use Rattle.node_emit.specs.Stands.{Stands}
+use Rattle.node_emit.specs.Law.{is_empty}
 
 abbrev pub In : ℕ → List ℕ → Type 0
 In y [] = ⊥
@@ -181,8 +182,9 @@ module _ (c : Setup) where
       × RunAt t (n + 1) (pc + 1) ws ops line end
 
   -- the run of a point
-  abbrev pub PointAt : (t pc : ℕ) → List Op → (line end : ℕ) → Type 0
-  PointAt t pc ops line end = RunAt t 0 pc (c.waits t) ops line end
+  pub record PointAt (t pc : ℕ) (ops : List Op) (line end : ℕ) : Type 0 where
+    pub full : is_empty c.here.program t ≡ false
+    pub run : RunAt t 0 pc (c.waits t) ops line end
 
   -- an instruction that belongs to no point
   pub record OutsideAt (pc : ℕ) (o : Op) (end : ℕ) : Type 0 where
@@ -274,7 +276,7 @@ module _ (c : Setup) where
     pub last : ℕ
     pub over : ℕ
     pub no_waits : c.waits (first_point c.here.program.functions fn) ≡ []
-    pub no_run : c.long (first_point c.here.program.functions fn) ≡ 0
+    pub no_run : is_empty c.here.program (first_point c.here.program.functions fn) ≡ true
     pub flows : Flows fn f.body (first_point c.here.program.functions fn + 1) sites (first_point c.here.program.functions fn ∷ [])
     pub lies : Lie f.body (first_point c.here.program.functions fn + 1) sites 0 0 row.start end
     pub zero_at : OutsideAt end (constant_op (zero_of f.result)) last
