@@ -1,3 +1,4 @@
 pub mod PlainPlans
 pub mod Parts
 pub mod Ghosts
+pub mod Cells
