@@ -2,3 +2,5 @@ pub mod PlainPlans
 pub mod Parts
 pub mod Ghosts
 pub mod Cells
+pub mod DeedsMade
+pub mod StepRuns
