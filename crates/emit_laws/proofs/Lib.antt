@@ -4,3 +4,5 @@ pub mod Ghosts
 pub mod Cells
 pub mod DeedsMade
 pub mod StepRuns
+pub mod TreeRuns
+pub mod StatementRuns

@@ -106,9 +106,10 @@ module _ (c : Setup) where
       pub touches : (x : ℕ) → In x (touched action) → Touches t x
       pub fills : FillsBy action t site
 
-    abbrev pub FlowBack : Option Operation → (t s : ℕ) → Type 0
-    FlowBack None t s = Unit {0}
-    FlowBack (Some operation) t s = FlowStep operation (t + 1) (suc s) (t ∷ []) []
+    -- what takes back the old value, at the point t behind the point `from`
+    abbrev pub FlowBack : Option Operation → (from t s : ℕ) → Type 0
+    FlowBack None from t s = Unit {0}
+    FlowBack (Some operation) from t s = FlowStep operation t (suc s) (from ∷ []) []
 
     abbrev mutual
       pub Flow : Core → (k s : ℕ) → (froms : List ℕ) → Type 0
@@ -133,7 +134,7 @@ module _ (c : Setup) where
           × FlowStep operation u (suc join) (exits c.returns right (t + 1) (t ∷ [])) (suc read ∷ fetched right (read + 1))
           × FlowStep does.Write (u + 1) (suc write) (behind c.returns (callee_of operation) u)
           (fetched pointer s ++ fetched_by operation join)
-          × FlowBack back (u + 1) (write + 1)
+          × FlowBack back (u + 1) (u + 2) (write + 1)
 
       pub FlowAll : Arguments → (k s : ℕ) → (froms : List ℕ) → Type 0
       FlowAll none k s froms = Unit {0}
@@ -211,7 +212,7 @@ module _ (c : Setup) where
   abbrev pub BackAt : Option Operation → (t s pc line end : ℕ) → Type 0
   BackAt None t s pc line end = pc ≡ end
   BackAt (Some operation) t s pc line end =
-      (p : ℕ) × OutsideAt pc (op.Push (pos 1)) p × StepAt operation 2 (t + 1) (suc s) p line end
+      (p : ℕ) × OutsideAt pc (op.Push (pos 1)) p × StepAt operation 2 t (suc s) p line end
 
   abbrev mutual
     -- the code of the expression lies from pc up to end
@@ -233,7 +234,7 @@ module _ (c : Setup) where
         let write = join + accesses_by operation in
         (p q r v x y : ℕ) × Lies pointer k s pc p × OutsideAt p op.Dup q × StepAt does.Read 1 t (suc read) q line r
         × Lies right (t + 1) (read + 1) r v × StepAt operation 2 u (suc join) v line x
-        × StepAt does.Write 2 (u + 1) (suc write) x line y × BackAt back (u + 1) (write + 1) y line end
+        × StepAt does.Write 2 (u + 1) (suc write) x line y × BackAt back (u + 2) (write + 1) y line end
 
     pub LieAll : Arguments → (k s pc end : ℕ) → Type 0
     LieAll none k s pc end = pc ≡ end
