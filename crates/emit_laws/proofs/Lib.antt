@@ -6,3 +6,4 @@ pub mod DeedsMade
 pub mod StepRuns
 pub mod TreeRuns
 pub mod StatementRuns
+pub mod Masks
