@@ -18,7 +18,7 @@ use Rattle.sc_isa.specs.Deeds.{makes, faults, stuck, uses, sets, reads, writes, 
 use Rattle.sc_core.specs.declared.operation.Constant.{Constant}
 use Rattle.sc_core.specs.declared.operation.Operation.{Operation}
 use Rattle.sc_core.specs.declared.operation.Action.{Action}
-use Rattle.sc_core.specs.Table.{made_of, done_of, ops_of, ops_of_action}
+use Rattle.sc_core.specs.Table.{made_of, done_of}
 use Rattle.sc_meaning.specs.declared.request.Request.TheVariants as request
 use Rattle.sc_meaning.specs.Asking.{PointedDoing, Requested, Finishes, Breaks, Answer, Shown, Landed, Passed, fits_read, fits_sync, fits_barrier}
 use Rattle.sc_meaning.specs.Memory.{Slot, has, awaits, Spot, Memory, top, places}
@@ -27,7 +27,7 @@ use Rattle.sc_meaning.specs.Meaning.{pass, constant_of}
 use Rattle.meaning_laws.specs.StepTable.{arguments_of, arguments_of_action}
 use Rattle.node_emit.specs.Runs.{constant_op, test_ops}
 use Rattle.node_emit.specs.Law.{is_empty}
-use Rattle.emit_laws.proofs.Parts.{Setup, PointAt, OutsideAt, JumpAt}
+use Rattle.emit_laws.proofs.Parts.{Setup, PointAt, StepAt, ActAt, OutsideAt, JumpAt}
 
 -- a read: its number among the node's accesses, its counter and its place
 pub record Token : Type 0 where
@@ -160,8 +160,8 @@ module _ (c : Setup) where
   -- the instructions of the stage lie here, behind the waits of the point
   abbrev pub StageAt : (t pc : ℕ) → Stage → Type 0
   StageAt t pc (between other) = ⊥
-  StageAt t pc (stepping operation site line end) = PointAt c t pc (ops_of (c.one_way site) site operation) line end
-  StageAt t pc (acting action site line end) = PointAt c t pc (ops_of_action site action) line end
+  StageAt t pc (stepping operation site line end) = StepAt c operation (arguments_of operation) t site pc line end
+  StageAt t pc (acting action site line end) = ActAt c action (arguments_of_action action) t site pc line end
   StageAt t pc (testing of_pointer target end) = PointAt c t pc (test_ops of_pointer target) 0 end
   StageAt t pc (turning end) = PointAt c t pc (op.Turn ∷ []) 0 end
   StageAt t pc (leaving line end) = PointAt c t pc (op.Ret ∷ []) line end

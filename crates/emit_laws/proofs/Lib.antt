@@ -7,3 +7,5 @@ pub mod StepRuns
 pub mod TreeRuns
 pub mod StatementRuns
 pub mod Masks
+pub mod Standing
+pub mod Fitting

@@ -256,7 +256,7 @@ module _ (value : ℕ → Value) where
   -- a value that a read gave is that of an access that was made
   abbrev pub GivenBy : ℕ → Thing → Type 0
   GivenBy n (val v None) = Unit {0}
-  GivenBy n (val v (Some k)) = (v ≡ value k.order) × (k.order < n)
+  GivenBy n (val v (Some k)) = (v ≡ value k.order) × (k.order < n) × (k.counter ≡ 0 → ⊥)
   GivenBy n (awaited number) = Unit {0}
 
   abbrev pub AllGiven : ℕ → List Thing → Type 0
@@ -275,7 +275,7 @@ module _ (value : ℕ → Value) where
   values_on c fl = landing value c fl
 
   -- a wait shows what lands, and nothing else
-  land_from : (n c : ℕ) (fl : List Token) (v : Value) (from : Option Token) → GivenBy n (val v from)
+  pub land_from : (n c : ℕ) (fl : List Token) (v : Value) (from : Option Token) → GivenBy n (val v from)
       → land c (values_on c fl) (mask_from fl v from) ≡ mask_from (without c fl) v from
   land_from n c fl v None h = refl
   land_from n c fl v (Some k) h =

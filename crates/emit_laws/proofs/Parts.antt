@@ -44,6 +44,8 @@ pub record Setup : Type 1 where
   -- where an instruction stands in the runs, and how long the run of a point is
   pub stands : (pc : ℕ) → Option Stands
   pub long : (point : ℕ) → ℕ
+  -- the points with empty runs between the point `now` and the next whose run is entered
+  pub between : (now next : ℕ) → List ℕ
   -- how many locals a function has
   pub locals : (function : ℕ) → ℕ
 

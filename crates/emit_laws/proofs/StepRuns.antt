@@ -102,7 +102,7 @@ module _ (c : Setup) (value : ℕ → Value) where
         → From froms pc (onto (things xs) rest) bound
         (λ m left. pass t (perform c.here.layout Calls_ (made_of c.here.layout c.here.node o (worths xs)) line go m left))
     step_runs o line t s froms sites pc end count xs rest bound go flow code counted come next w le at_ held =
-        enter t (flow.enter w.at at_) code.run
+        enter t (flow.enter w.at at_) (record { counted = refl; at_site = code.at_site; row = code.row; run = code.run })
         (op_runs o s line end xs (onto (things xs) rest) rest bound go (entered c t w)
         (record { is = refl; count = counted ∙ code.counted; may = all_may c t xs sites flow.taken come }) flow.touches flow.fetches flow.called
         code.row le held next (made_of c.here.layout c.here.node o (worths xs)) refl (made_table c.here.layout c.here.node o (worths xs)))
@@ -166,7 +166,7 @@ module _ (c : Setup) (value : ℕ → Value) where
         → From froms pc (onto (things xs) rest) bound
         (λ m left. pass t (enact c.here.layout (mode_of a) (done_of c.here.layout c.here.program.texts a (worths xs)) line after m left))
     action_runs a line t site froms sites pc end count xs rest bound after flow code counted come next w le at_ held =
-        enter t (flow.enter w.at at_) code.run
+        enter t (flow.enter w.at at_) (record { counted = refl; at_site = code.at_site; run = code.run })
         (deed_runs a site line end xs (onto (things xs) rest) rest bound after (entered c t w)
         (record { is = refl; count = counted ∙ code.counted; may = all_may c t xs sites flow.taken come }) flow.touches flow.fills le held next
         (done_of c.here.layout c.here.program.texts a (worths xs)) refl (done_table c.here.layout c.here.program.texts a (worths xs)))
