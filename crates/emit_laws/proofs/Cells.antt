@@ -93,7 +93,7 @@ called_slots c vs others =
 
 -- ---- what each may hold
 
-set_cases : (xs : List Thing) (i j : ℕ) (v w : Thing) → slice_get (slice_set xs i v) j ≡ Some w
+pub set_cases : (xs : List Thing) (i j : ℕ) (v w : Thing) → slice_get (slice_set xs i v) j ≡ Some w
     → ((i ≡ j) × (w ≡ v)) ⊎ (slice_get xs j ≡ Some w)
 set_cases [] i j v w h = inr h
 set_cases (x ∷ xs) zero zero v w h = inl (refl, cc)

@@ -9,3 +9,4 @@ pub mod StatementRuns
 pub mod Masks
 pub mod Standing
 pub mod Fitting
+pub mod Awaited
