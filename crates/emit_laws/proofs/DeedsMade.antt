@@ -4,6 +4,7 @@ use Rattle.std.specs.Prelude.{ℤ, pos, negsuc, zero, suc, ◌==◌, ◌%◌, �
 use Rattle.std.specs.Option.{option_map_or}
 use Rattle.sc_base.specs.declared.operator.Unary.TheVariants.{Minus, Not}
 use Rattle.sc_base.specs.declared.shape.Star.{Star}
+use Rattle.sc_base.specs.declared.value.CopyMode.{CopyMode}
 use Rattle.sc_base.specs.declared.value.FaultKind.{FaultKind}
 use Rattle.sc_base.specs.declared.value.Place.{Place}
 use Rattle.sc_base.specs.declared.value.Value.{Value}
@@ -31,7 +32,7 @@ MadeBy o stuck = Unit {0}
 MadeBy o (uses x) = In x (named o) × (callee_of o ≡ None)
 MadeBy o (sets x v) = In x (named o) × (callee_of o ≡ None)
 MadeBy o (reads p) = o ≡ does.Read
-MadeBy o (writes p v) = callee_of o ≡ None
+MadeBy o (writes p v) = o ≡ does.Write
 MadeBy o (calls f vs) = (n : ℕ) × (o ≡ does.Call f n)
 
 of_outcome : (o : Operation) → callee_of o ≡ None → (outcome : Outcome) → MadeBy o (made_by outcome)
@@ -98,6 +99,9 @@ DoneBy a (fills x p) = a ≡ acts.Fill x
 DoneBy a (gets x p) = In x (touched a)
 DoneBy a (misses x kind) = In x (touched a)
 DoneBy a (waits counter) = counter ≡ 0
+DoneBy a (puts p v) = a ≡ acts.Put
+DoneBy a (sends p v) = a ≡ acts.Send
+DoneBy a (copies from to cells) = (mode : CopyMode) × (a ≡ acts.Copy mode)
 DoneBy a _ = Unit {0}
 
 of_fill : (x : ℕ) (s : Spotted) → DoneBy (acts.Fill x) (filling x s)
@@ -110,23 +114,23 @@ of_get x (found p) = inl refl
 of_get x (missing kind) = inl refl
 of_get x nowhere = tt
 
-of_put : (a : Action) (s : Spotted) (v : Value) → DoneBy a (putting puts s v)
-of_put a (found p) v = tt
-of_put a (missing kind) v = tt
-of_put a nowhere v = tt
+of_put : (s : Spotted) (v : Value) → DoneBy acts.Put (putting puts s v)
+of_put (found p) v = refl
+of_put (missing kind) v = tt
+of_put nowhere v = tt
 
-of_send : (a : Action) (s : Spotted) (v : Value) → DoneBy a (putting sends s v)
-of_send a (found p) v = tt
-of_send a (missing kind) v = tt
-of_send a nowhere v = tt
+of_send : (s : Spotted) (v : Value) → DoneBy acts.Send (putting sends s v)
+of_send (found p) v = refl
+of_send (missing kind) v = tt
+of_send nowhere v = tt
 
-of_from : (a : Action) (to : Place) (cells : ℕ) (from : Result Place FaultKind) → DoneBy a (copied_from to cells from)
-of_from a to cells (Ok from) = tt
-of_from a to cells (Err kind) = tt
+of_from : (mode : CopyMode) (to : Place) (cells : ℕ) (from : Result Place FaultKind) → DoneBy (acts.Copy mode) (copied_from to cells from)
+of_from mode to cells (Ok from) = (mode, refl)
+of_from mode to cells (Err kind) = tt
 
-of_copied : (layout : Arrangement) (a : Action) (cells : ℕ) (to : Result Place FaultKind) (from : Value) → DoneBy a (copied layout cells to from)
-of_copied layout a cells (Ok to) from = of_from a to cells (spanned layout cells from)
-of_copied layout a cells (Err kind) from = tt
+of_copied : (layout : Arrangement) (mode : CopyMode) (cells : ℕ) (to : Result Place FaultKind) (from : Value) → DoneBy (acts.Copy mode) (copied layout cells to from)
+of_copied layout mode cells (Ok to) from = of_from mode to cells (spanned layout cells from)
+of_copied layout mode cells (Err kind) from = tt
 
 of_whole : (a : Action) (b : Bool) (d : Done) (kind : FaultKind) → DoneBy a d → DoneBy a (if b then d else ends kind)
 of_whole a true d kind h = h
@@ -136,11 +140,11 @@ of_either : (a : Action) (b : Bool) (d : Done) → DoneBy a d → DoneBy a (if b
 of_either a true d h = h
 of_either a false d h = tt
 
-of_copying : (layout : Arrangement) (a : Action) (to from : Value) (bytes : ℤ) → DoneBy a (copying layout to from bytes)
-of_copying layout a to from (pos zero) = tt
-of_copying layout a to from (pos (suc n)) =
-    of_whole a (suc n % 8 == 0) _ _ (of_copied layout a (suc n / 8) (spanned layout (suc n / 8) to) from)
-of_copying layout a to from (negsuc n) = tt
+of_copying : (layout : Arrangement) (mode : CopyMode) (to from : Value) (bytes : ℤ) → DoneBy (acts.Copy mode) (copying layout to from bytes)
+of_copying layout mode to from (pos zero) = tt
+of_copying layout mode to from (pos (suc n)) =
+    of_whole (acts.Copy mode) (suc n % 8 == 0) _ _ (of_copied layout mode (suc n / 8) (spanned layout (suc n / 8) to) from)
+of_copying layout mode to from (negsuc n) = tt
 
 of_print : (a : Action) (format : List ℕ) (values : Option (List ℤ)) → DoneBy a (printing format values)
 of_print a format (Some values) = tt
@@ -151,19 +155,19 @@ of_text : (layout : Arrangement) (a : Action) (n : ℕ) (vs : List Value) (forma
 of_text layout a n vs None = tt
 of_text layout a n vs (Some format) = of_print a format (ints vs)
 
-of_copy : (layout : Arrangement) (a : Action) (vs : List Value) → DoneBy a (done layout steps.copy vs)
-of_copy layout a [] = tt
-of_copy layout a (to ∷ []) = tt
-of_copy layout a (to ∷ from ∷ []) = tt
-of_copy layout a (to ∷ from ∷ Int bytes ∷ []) = of_pointers (is_pointer layout to) (is_pointer layout from)
+of_copy : (layout : Arrangement) (mode : CopyMode) (vs : List Value) → DoneBy (acts.Copy mode) (done layout steps.copy vs)
+of_copy layout mode [] = tt
+of_copy layout mode (to ∷ []) = tt
+of_copy layout mode (to ∷ from ∷ []) = tt
+of_copy layout mode (to ∷ from ∷ Int bytes ∷ []) = of_pointers (is_pointer layout to) (is_pointer layout from)
   where
-    of_pointers : (b b' : Bool) → DoneBy a (if b && b' then copying layout to from bytes else sticks)
-    of_pointers b b' = of_either a (b && b') (copying layout to from bytes) (of_copying layout a to from bytes)
-of_copy layout a (to ∷ from ∷ Null ∷ []) = tt
-of_copy layout a (to ∷ from ∷ Ptr o p q ∷ []) = tt
-of_copy layout a (to ∷ from ∷ Int n ∷ v ∷ vs) = tt
-of_copy layout a (to ∷ from ∷ Null ∷ v ∷ vs) = tt
-of_copy layout a (to ∷ from ∷ Ptr o p q ∷ v ∷ vs) = tt
+    of_pointers : (b b' : Bool) → DoneBy (acts.Copy mode) (if b && b' then copying layout to from bytes else sticks)
+    of_pointers b b' = of_either (acts.Copy mode) (b && b') (copying layout to from bytes) (of_copying layout mode to from bytes)
+of_copy layout mode (to ∷ from ∷ Null ∷ []) = tt
+of_copy layout mode (to ∷ from ∷ Ptr o p q ∷ []) = tt
+of_copy layout mode (to ∷ from ∷ Int n ∷ v ∷ vs) = tt
+of_copy layout mode (to ∷ from ∷ Null ∷ v ∷ vs) = tt
+of_copy layout mode (to ∷ from ∷ Ptr o p q ∷ v ∷ vs) = tt
 
 pub done_table : (layout : Arrangement) (texts : List Text) (a : Action) (vs : List Value) → DoneBy a (done_of layout texts a vs)
 done_table layout texts acts.Drop [] = tt
@@ -182,13 +186,13 @@ done_table layout texts (acts.Get x) (a ∷ []) = of_get x (spotted layout a)
 done_table layout texts (acts.Get x) (a ∷ b ∷ vs) = tt
 done_table layout texts acts.Put [] = tt
 done_table layout texts acts.Put (a ∷ []) = tt
-done_table layout texts acts.Put (a ∷ v ∷ []) = of_put acts.Put (spotted layout a) v
+done_table layout texts acts.Put (a ∷ v ∷ []) = of_put (spotted layout a) v
 done_table layout texts acts.Put (a ∷ v ∷ u ∷ vs) = tt
 done_table layout texts acts.Send [] = tt
 done_table layout texts acts.Send (a ∷ []) = tt
-done_table layout texts acts.Send (a ∷ v ∷ []) = of_send acts.Send (spotted layout a) v
+done_table layout texts acts.Send (a ∷ v ∷ []) = of_send (spotted layout a) v
 done_table layout texts acts.Send (a ∷ v ∷ u ∷ vs) = tt
-done_table layout texts (acts.Copy mode) vs = of_copy layout (acts.Copy mode) vs
+done_table layout texts (acts.Copy mode) vs = of_copy layout mode vs
 done_table layout texts (acts.Print text n) vs = of_text layout (acts.Print text n) n vs (slice_get texts text)
 done_table layout texts acts.Sync [] = refl
 done_table layout texts acts.Sync (v ∷ vs) = tt

@@ -10,3 +10,4 @@ pub mod Masks
 pub mod Standing
 pub mod Fitting
 pub mod Awaited
+pub mod Keeping

@@ -83,7 +83,7 @@ module _ (c : Setup) (value : ℕ → Value) where
         (subst (λ o. In w.at (behind c.returns (callee_of o) w.at)) (sym by) (inl refl)) held
         (subst (λ o. In (suc s) (fetched_by o s)) (sym by) (inl refl)))
     op_runs o s line end xs stack rest bound go w ready touch fetch call row le held next (writes p v) e by =
-        step_writes xs p v ready e (next v None (one_more c w) le (at_own w.at (callee_of o) by) held tt)
+        step_writes xs p v ready e (next v None (one_more c w) le (at_own w.at (callee_of o) (ap callee_of by)) held tt)
     op_runs o s line end xs stack rest bound go w ready touch fetch call row le held next (calls f vs) e by =
         subst (λ o. At (stepping o (suc s) line end) stack w (calls_by c.here n f vs line go (memory_of w) w.left)) (sym by.1)
         (subst (λ vs. At (stepping (does.Call f by.0) (suc s) line end) stack w (calls_by c.here n f vs line go (memory_of w) w.left))
