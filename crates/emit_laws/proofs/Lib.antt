@@ -11,3 +11,4 @@ pub mod Standing
 pub mod Fitting
 pub mod Awaited
 pub mod Keeping
+pub mod Moved

@@ -116,6 +116,7 @@ pub record Timely (c : Setup) : Type 1 where
   pub waited : (t a : ℕ) → Open t a → c.Demand t a → In a (c.waits t)
   -- the plan waits for sites of the code
   pub counters : (t a : ℕ) → In a (c.waits t) → (0 < a) × (a ≤ c.code.sites)
+  pub texts : c.code.texts ≡ c.here.program.texts
   -- between two runs at most one empty point is passed, and the code tells which
   pub direct : (p t : ℕ) → c.Goes p t → is_empty c.here.program t ≡ false → c.between p t ≡ []
   pub through : (p e t : ℕ) → c.Goes p e → is_empty c.here.program e ≡ true → c.Goes e t → is_empty c.here.program t ≡ false → c.between p t ≡ e ∷ []
