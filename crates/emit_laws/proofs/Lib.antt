@@ -12,3 +12,4 @@ pub mod Fitting
 pub mod Awaited
 pub mod Keeping
 pub mod Moved
+pub mod Late
