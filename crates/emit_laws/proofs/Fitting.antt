@@ -72,7 +72,7 @@ each_without_all P (w ∷ ws) ts h =
     (λ a q. (q.0.0, λ i. ⊎_elim (λ e. q.0.1 e) (λ j. q.1 j) i)) (without_all ws (without w ts))
     (each_without_all Q ws (without w ts) (each_without P w ts h))
 
-each_only : (P : ℕ → Type 0) (w : ℕ) (ts : List Token) → Each P ts → Each P (without w ts)
+pub each_only : (P : ℕ → Type 0) (w : ℕ) (ts : List Token) → Each P ts → Each P (without w ts)
 each_only P w ts h = each_map (λ a. P a × (a ≡ w → ⊥)) P (λ a p. p.0) (without w ts) (each_without P w ts h)
 
 module _ (c : Setup) (timely : Timely c) where
