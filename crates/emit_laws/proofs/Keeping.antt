@@ -20,7 +20,7 @@ use Rattle.emit_laws.proofs.Masks.{by_bool, no_way, flight_of, flights, reads_fl
 use Rattle.emit_laws.proofs.Fitting.{all_more, cells_more, frames_more, all_set, cells_top, cells_older, cells_newest, called_given, same_frame, state_with, same_state, old_callers, AllFit, fit_add, fit_without, given_onto}
 use Rattle.emit_laws.proofs.Awaited.{KnownAt, Known, Spots, fill_all, sync_fills, fill_all_val, fill_all_at, known_within, spots_called, spots_older, spots_put, spots_get, spots_synced}
 
-append_nil : {A : Type 0} (xs : List A) → xs ++ [] ≡ xs
+pub append_nil : {A : Type 0} (xs : List A) → xs ++ [] ≡ xs
 append_nil [] = refl
 append_nil (x ∷ xs) = ap (λ l. x ∷ l) (append_nil xs)
 
@@ -41,16 +41,16 @@ older_put (f ∷ fs) x v = refl
 pub not_zero : (n : ℕ) → 0 < n → n ≡ 0 → ⊥
 not_zero n l e = omega (arith, l, e)
 
-on_other : (t : Token) (fl : List Token) → (t.counter ≡ 0 → ⊥) → on_counter 0 (fl ++ t ∷ []) ≡ on_counter 0 fl
+pub on_other : (t : Token) (fl : List Token) → (t.counter ≡ 0 → ⊥) → on_counter 0 (fl ++ t ∷ []) ≡ on_counter 0 fl
 on_other t fl other =
     on_append 0 t fl
     ∙ ap (λ b. on_counter 0 fl ++ (if b then t ∷ [] else [])) (by_bool (t.counter == 0) (λ e. absurd (other ((Decides-eqb t.counter 0).0 e))) (λ e. e))
     ∙ append_nil (on_counter 0 fl)
 
-on_same : (t : Token) (fl : List Token) → t.counter ≡ 0 → on_counter 0 (fl ++ t ∷ []) ≡ on_counter 0 fl ++ t ∷ []
+pub on_same : (t : Token) (fl : List Token) → t.counter ≡ 0 → on_counter 0 (fl ++ t ∷ []) ≡ on_counter 0 fl ++ t ∷ []
 on_same t fl same = on_append 0 t fl ∙ ap (λ b. on_counter 0 fl ++ (if b then t ∷ [] else [])) ((Decides-eqb t.counter 0).1 same)
 
-on_without : (w : ℕ) (fl : List Token) → (w ≡ 0 → ⊥) → on_counter 0 (without w fl) ≡ on_counter 0 fl
+pub on_without : (w : ℕ) (fl : List Token) → (w ≡ 0 → ⊥) → on_counter 0 (without w fl) ≡ on_counter 0 fl
 on_without w [] z = refl
 on_without w (t ∷ ts) z = go (t.counter == w) refl (on_without w ts z)
   where
@@ -61,7 +61,7 @@ on_without w (t ∷ ts) z = go (t.counter == w) refl (on_without w ts z)
         (by_bool (t.counter == 0) (λ f. absurd (z (sym ((Decides-eqb t.counter w).0 e) ∙ (Decides-eqb t.counter 0).0 f))) (λ f. f)))
     go false e h = ap (λ l. if t.counter == 0 then t ∷ l else l) h
 
-none_on : (w : ℕ) (fl : List Token) → on_counter w (without w fl) ≡ []
+pub none_on : (w : ℕ) (fl : List Token) → on_counter w (without w fl) ≡ []
 none_on w [] = refl
 none_on w (t ∷ ts) = go (t.counter == w) refl (none_on w ts)
   where

@@ -13,3 +13,5 @@ pub mod Awaited
 pub mod Keeping
 pub mod Moved
 pub mod Late
+pub mod Stories
+pub mod Told
