@@ -493,7 +493,7 @@ module _ (c : Setup) (timely : Timely c) (value : ℕ → Value) (m : Motive c v
       by_move c timely value m h (counted w.left go) (fetched_op c timely value m 0 op.Turn (state_of pc stack frames w) at_.1)
       (counted_by h go _ w.left (λ k is.
       m.on h _ (go k)
-      (subst (λ e. m.At h (state_of e stack frames (record w { left = k })) (go k)) at_.2.1
+      (subst (λ e. m.At h (state_of e stack frames (record w { left = k })) (go k)) at_.2
       (late (r k is) (fit_at c value w.at k fit) (coming_on c timely w calm) h (go k) (direct true)))))
   late {w = w} (returns_to {line = line} {end = end} {stack = stack} {f = f} {frames = frames} {d = d} x may r) fit = λ calm n pc at_.
       let h = now_at w.at true w in

@@ -15,3 +15,5 @@ pub mod Moved
 pub mod Late
 pub mod Stories
 pub mod Told
+pub mod Whole
+pub mod Items

@@ -95,7 +95,7 @@ module _ (c : Setup) (timely : Timely c) (value : ℕ → Value) (m : Motive c v
         (fetched_op line o1 (state_of pc stack frames w) r'.1
         ∙ ap (does_ o1 line) (valued (pc + 1) (arguments_of o) stack xs rest frames w ready still given)
         ∙ sym (alone (does_ o1 line (with_values vs s))) ∙ law
-        ∙ ap (λ e. gain_done c.code site track line (state_of e rest frames w) (made_of c.here.layout c.here.node o vs)) (sym r'.2.1))
+        ∙ ap (λ e. gain_done c.code site track line (state_of e rest frames w) (made_of c.here.layout c.here.node o vs)) (sym r'.2))
         done
 
     two_ops : (o1 o2 : Op) (p : Pure) (vs : List Value) (below : List Operand) (k : Value → Made)
@@ -119,7 +119,7 @@ module _ (c : Setup) (timely : Timely c) (value : ℕ → Value) (m : Motive c v
             by_move h d e
             (m.on h s d (m.goes h s d (begins_none n w.at (c.stands (pc + 1)) r.2.0)
             (by_move h d (fetched_op line o2 s r.2.1 ∙ second v)
-            (subst (λ e. m.By h (gain_done c.code site track line (state_of e rest frames w) (k v)) d) r.2.2.1 done))))
+            (subst (λ e. m.By h (gain_done c.code site track line (state_of e rest frames w) (k v)) d) r.2.2 done))))
         by_outcome (fails kind) e done = by_move h d e done
         by_outcome wrong e done = by_move h d e done
 
@@ -253,7 +253,7 @@ module _ (c : Setup) (timely : Timely c) (value : ℕ → Value) (m : Motive c v
       ∙ ap (does_ (o1 site) line) (valued (pc + 1) (arguments_of_action a) stack xs rest frames w ready still given)
       ∙ sym (alone (does_ (o1 site) line (with_values vs s))) ∙ law
       ∙ ap (λ texts. act_done site (action_track site a) line s (done_of c.here.layout texts a vs)) timely.texts
-      ∙ ap (λ e. act_done site (action_track site a) line (state_of e rest frames w) (done_of c.here.layout c.here.program.texts a vs)) (sym r'.2.1))
+      ∙ ap (λ e. act_done site (action_track site a) line (state_of e rest frames w) (done_of c.here.layout c.here.program.texts a vs)) (sym r'.2))
       done
 
   -- a local's initial value is set, and the value that stands for the step is dropped
@@ -275,7 +275,7 @@ module _ (c : Setup) (timely : Timely c) (value : ℕ → Value) (m : Motive c v
           let s = pushed (Here y.value) (with_local x (Holds (Here y.value)) (state_of (pc + 1) rest frames w)) in
           m.on h s d (m.goes h s d (begins_none n w.at (c.stands (pc + 1)) r.2.0)
           (by_move h d (fetched_op line op.Drop s r.2.1
-          ∙ ap (λ e. Comes (GoesOn (with_local x (Holds (Here y.value)) (state_of e rest frames w)))) (sym r.2.2.1)) done))
+          ∙ ap (λ e. Comes (GoesOn (with_local x (Holds (Here y.value)) (state_of e rest frames w)))) (sym r.2.2)) done))
       by_slot (Some (Holds (Landing counter number))) done = done
       by_slot (Some (Pending number)) done = done
 
@@ -317,7 +317,7 @@ module _ (c : Setup) (timely : Timely c) (value : ℕ → Value) (m : Motive c v
       by_move h (decided_by x.value on off)
       (fetched_op 0 (op.Zero target) (state_of pc (thing x ∷ stack) frames w) r.1
       ∙ ap (does_ (op.Zero target) 0) (top_seen (pc + 1) x stack frames w may still given))
-      (zero_by h 0 target x.value (state_of (pc + 1) stack frames w) on off (subst (λ e. m.By h (Comes (GoesOn (state_of e stack frames w))) on) r.2.1 a) b)
+      (zero_by h 0 target x.value (state_of (pc + 1) stack frames w) on off (subst (λ e. m.By h (Comes (GoesOn (state_of e stack frames w))) on) r.2 a) b)
   test_by true h target end n pc x stack frames w on off r may still given a b =
       let v = bit (is_true x.value) in
       let s = pushed (Here v) (state_of (pc + 1) stack frames w) in
@@ -326,7 +326,7 @@ module _ (c : Setup) (timely : Timely c) (value : ℕ → Value) (m : Motive c v
       ∙ ap (does_ op.Truth 0) (top_seen (pc + 1) x stack frames w may still given))
       (m.on h s (decided_by v on off) (m.goes h s (decided_by v on off) (begins_none n w.at (c.stands (pc + 1)) r.2.0)
       (by_move h (decided_by v on off) (fetched_op 0 (op.Zero target) s r.2.1)
-      (zero_by h 0 target v (state_of (pc + 1 + 1) stack frames w) on off (subst (λ e. m.By h (Comes (GoesOn (state_of e stack frames w))) on) r.2.2.1 a) b))))
+      (zero_by h 0 target v (state_of (pc + 1 + 1) stack frames w) on off (subst (λ e. m.By h (Comes (GoesOn (state_of e stack frames w))) on) r.2.2 a) b))))
 
   pub ret_top : (pc : ℕ) (x : Worth) (stack : List Thing) (frames : List Holder) (w : World) → MayFrom c w.at x.from → Still c timely w → GivenBy value w.accesses (thing x)
       → state_of pc (thing x ∷ stack) frames w ≡ pushed (Here x.value) (state_of pc stack frames w)

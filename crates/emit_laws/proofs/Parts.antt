@@ -41,9 +41,8 @@ pub record Setup : Type 1 where
   pub Fetches : (point site : ℕ) → Type 0
   pub Fills : (function local site : ℕ) → Type 0
   pub returns : (function : ℕ) → List ℕ
-  -- where an instruction stands in the runs, and how long the run of a point is
+  -- where an instruction stands in the runs
   pub stands : (pc : ℕ) → Option Stands
-  pub long : (point : ℕ) → ℕ
   -- the points with empty runs between the point `now` and the next whose run is entered
   pub between : (now next : ℕ) → List ℕ
   -- how many locals a function has
@@ -176,7 +175,7 @@ module _ (c : Setup) where
 
   -- from the instruction with the number n of the run of t on: waits, and then the instructions of the step
   abbrev pub RunAt : (t n pc : ℕ) → (waits : List ℕ) → List Op → (line end : ℕ) → Type 0
-  RunAt t n pc [] [] line end = (c.long t ≡ n) × (end ≡ pc)
+  RunAt t n pc [] [] line end = end ≡ pc
   RunAt t n pc [] (o ∷ ops) line end =
       (c.stands pc ≡ Some (record { point = t; number = n })) × (slice_get c.code.instrs pc ≡ Some (instr line o))
       × RunAt t (n + 1) (pc + 1) [] ops line end

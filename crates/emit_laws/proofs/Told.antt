@@ -274,3 +274,9 @@ module _ (c : Setup) (plan : Plan) (pieces : List Piece) (stands : (pc : ℕ) �
     meets = λ h stores line s d left own next b. meets_ h stores line s d next b;
     says = λ h text s d at_ b. shows_text text _ _ (at_ b);
   }
+
+  -- what it says of a state
+  pub shown_at : (h : Now) (s : State) (d : PointedDoing) → stories.At h s d
+      → (b : ℕ) → Shows (tells oracle (is_empty c.here.program) (told b h) d) (λ many. plays oracle (is_empty c.here.program) (progress b h) (from_state many h.at s))
+  unfolding stories
+  shown_at h s d at_ b = at_ b
