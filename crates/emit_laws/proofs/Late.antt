@@ -52,7 +52,7 @@ abbrev pub now_at : (p : ℕ) → (own : Bool) → World → Now
 now_at p own w = record { at = p; left = []; own = own; accesses = w.accesses; flying = w.flying }
 
 -- some instruction
-abbrev IsSome_ : List Op → Type 0
+abbrev pub IsSome_ : List Op → Type 0
 IsSome_ [] = ⊥
 IsSome_ (o ∷ ops) = Unit {0}
 
@@ -158,7 +158,7 @@ module _ (c : Setup) (timely : Timely c) (value : ℕ → Value) (m : Motive c v
 
   -- ---- the run of a point
 
-  op_some : (b : Bool) (site : ℕ) (o : Operation) → IsSome_ (ops_of b site o)
+  pub op_some : (b : Bool) (site : ℕ) (o : Operation) → IsSome_ (ops_of b site o)
   op_some b site (does.Use x) = tt
   op_some b site (does.Element o n plain) = tt
   op_some b site (does.Address o n) = tt
@@ -179,7 +179,7 @@ module _ (c : Setup) (timely : Timely c) (value : ℕ → Value) (m : Motive c v
   op_some b site does.Read = tt
   op_some b site does.Write = tt
 
-  act_some : (site : ℕ) (a : Action) → IsSome_ (ops_of_action site a)
+  pub act_some : (site : ℕ) (a : Action) → IsSome_ (ops_of_action site a)
   act_some site acts.Drop = tt
   act_some site (acts.Begin x) = tt
   act_some site (acts.Clear x pointer) = tt
@@ -193,7 +193,7 @@ module _ (c : Setup) (timely : Timely c) (value : ℕ → Value) (m : Motive c v
   act_some site acts.Barrier = tt
   act_some site acts.AllStoreSync = tt
 
-  test_some : (of_pointer : Bool) (target : ℕ) → IsSome_ (test_ops of_pointer target)
+  pub test_some : (of_pointer : Bool) (target : ℕ) → IsSome_ (test_ops of_pointer target)
   test_some true target = tt
   test_some false target = tt
 

@@ -17,3 +17,6 @@ pub mod Stories
 pub mod Told
 pub mod Whole
 pub mod Items
+pub mod Placed
+pub mod PlacedStatements
+pub mod Openings
