@@ -20,3 +20,4 @@ pub mod Items
 pub mod Placed
 pub mod PlacedStatements
 pub mod Openings
+pub mod Setups
