@@ -21,3 +21,4 @@ pub mod Placed
 pub mod PlacedStatements
 pub mod Openings
 pub mod Setups
+pub mod Standings
