@@ -168,7 +168,7 @@ fills_from n (s ∷ ss) [] cells e h = absurd (omega (arith, e))
 fills_from n (s ∷ ss) (v ∷ vs) cells e h =
     let first : n + 0 ≡ n = omega arith in
     let a : put_at s v cells ≡ map (map (fill n v)) cells =
-          put_fill n s v cells (subst (λ k. IsAwaited k s cells) first (h.awaits zero s refl)) (subst (λ k. Only k s cells) first (h.only zero s refl)) in
+    put_fill n s v cells (subst (λ k. IsAwaited k s cells) first (h.awaits zero s refl)) (subst (λ k. Only k s cells) first (h.only zero s refl)) in
     ap (put_all ss vs) a
     ∙ fills_from (n + 1) ss vs (map (map (fill n v)) cells) (omega (arith, e)) (record {
       awaits = λ i t is. let up : n + suc i ≡ n + 1 + i = omega arith in
@@ -180,9 +180,10 @@ fills_from n (s ∷ ss) (v ∷ vs) cells e h =
 
 only_known : (getting : List Spot) (n : ℕ) (s : Spot) (cells : List (List Thing)) → slice_get getting n ≡ Some s → Known getting cells → Only n s cells
 only_known getting n s [] e h = tt
-only_known getting n s (f ∷ fs) e h =
-    (λ y is. let k = h.0 y n is in let same : s ≡ k.spot = same_spot k in (ap (λ (t : Spot). t.level) same ∙ k.level_is, ap (λ (t : Spot). t.local) same ∙ k.local_is),
-    only_known getting n s fs e h.1)
+only_known getting n s (f ∷ fs) e h = (
+  λ y is. let k = h.0 y n is in let same : s ≡ k.spot = same_spot k in (ap (λ (t : Spot). t.level) same ∙ k.level_is, ap (λ (t : Spot). t.local) same ∙ k.local_is),
+  only_known getting n s fs e h.1,
+)
   where
     same_spot : {level x : ℕ} (k : KnownAt getting level x n) → s ≡ k.spot
     same_spot k = let a = k.is_spot in cc
@@ -313,8 +314,10 @@ spots_get getting [] x p old from is h = absurd (cc)
 spots_get getting (f ∷ fs) x p old from is h =
     let s : Spot = record { level = length fs; local = x; place = p } in
     record {
-      known = (λ y n e. ⊎_elim (λ g. at_new s y n g) (λ g. known_more getting s (length fs) y n (h.known.0 y n g)) (set_cases f x y (awaited (length getting)) (awaited n) e),
-          known_all_more getting s fs h.known.1);
+      known = (
+        λ y n e. ⊎_elim (λ g. at_new s y n g) (λ g. known_more getting s (length fs) y n (h.known.0 y n g)) (set_cases f x y (awaited (length getting)) (awaited n) e),
+        known_all_more getting s fs h.known.1,
+      );
       awaits = λ n t e. ⊎_elim (λ g. awaited_put n x t (f ∷ fs) old from (awaited (length getting)) is (h.awaits n t g))
           (λ g. inl (ap (λ (u : Spot). u.level) (sym g.1), put_new s n t g)) (get_cases getting s n t e);
     }

@@ -244,7 +244,6 @@ module _ (c : Setup) where
           → Runs (between pc) stack frames w (pass t d)
       enter : {pc : ℕ} {stage : Stage} (t : ℕ) {stack : List Thing} {frames : List Holder} {w : World} {d : PointedDoing} → c.Goes w.at t
           → StageAt t pc stage → Runs stage stack frames (entered t w) d → Runs (between pc) stack frames w (pass t d)
-
       -- a step with a value
       step_makes : {o : Operation} {site line end : ℕ} {stack rest : List Thing} {frames : List Holder} {w : World} {d : PointedDoing} (xs : List Worth) (v : Value)
           → Ready (arguments_of o) w.at stack xs rest → made_of c.here.layout c.here.node o (worths xs) ≡ makes v
@@ -286,7 +285,6 @@ module _ (c : Setup) where
           → Ready (arguments_of o) w.at stack xs rest → made_of c.here.layout c.here.node o (worths xs) ≡ calls f vs
           → (row : FnRow) → slice_get c.code.functions f ≡ Some row → limit ≤ length frames
           → Runs (stepping o site line end) stack frames w (counted w.left (λ left. Stops (Finishes (Fault Depth line))))
-
       -- a step without one
       act_lets_go : {a : Action} {site line end : ℕ} {stack rest : List Thing} {frames : List Holder} {w : World} {d : PointedDoing} (xs : List Worth)
           → Ready (arguments_of_action a) w.at stack xs rest → done_of c.here.layout c.here.program.texts a (worths xs) ≡ lets_go
@@ -344,7 +342,6 @@ module _ (c : Setup) where
       act_prints : {a : Action} {site line end : ℕ} {stack rest : List Thing} {frames : List Holder} {w : World} {d : PointedDoing} (xs : List Worth) (text : List ℕ)
           → Ready (arguments_of_action a) w.at stack xs rest → done_of c.here.layout c.here.program.texts a (worths xs) ≡ prints text
           → Runs (between end) rest frames w d → Runs (acting a site line end) stack frames w (Says text d)
-
       tests : {of_pointer : Bool} {target end : ℕ} {stack : List Thing} {frames : List Holder} {w : World} {on off : PointedDoing} (x : Worth) → MayFrom w.at x.from
           → Runs (between end) stack frames w on → Runs (between target) stack frames w off
           → Runs (testing of_pointer target end) (thing x ∷ stack) frames w (decided c.here.layout c.here.node of_pointer x.value on off)

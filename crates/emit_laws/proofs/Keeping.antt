@@ -97,7 +97,9 @@ module _ (c : Setup) (value : ℕ → Value) where
   pub fit_waited : (counter : ℕ) {stack : List Thing} {frames : List Holder} {w : World} → (counter ≡ 0 → ⊥) → Fit stack frames w
       → Fit stack frames (record w { flying = without counter w.flying })
   fit_waited counter {w = w} z fit = record {
-    on_stack = fit.on_stack; in_cells = fit.in_cells; in_frames = fit.in_frames;
+    on_stack = fit.on_stack;
+    in_cells = fit.in_cells;
+    in_frames = fit.in_frames;
     below = below_without w.accesses counter w.flying fit.below;
     fit = fit_without value c.here.layout counter w.flying fit.fit;
     gets = fit.gets ∙ ap (map place_of) (sym (on_without counter w.flying z));
@@ -107,22 +109,31 @@ module _ (c : Setup) (value : ℕ → Value) where
   pub fit_into : (x : ℕ) (v : Value) (old : Value) (from : Option Token) {stack : List Thing} {frames : List Holder} {w : World}
       → slice_get (newest w.cells) x ≡ Some (val old from) → Fit stack frames w → Fit stack frames (into c w x (plain v))
   fit_into x v old from {w = w} is fit = record {
-    on_stack = fit.on_stack; in_frames = fit.in_frames; below = fit.below; fit = fit.fit; gets = fit.gets;
+    on_stack = fit.on_stack;
+    in_frames = fit.in_frames;
+    below = fit.below;
+    fit = fit.fit;
+    gets = fit.gets;
     in_cells = cells_top value w.accesses w.cells x (plain v) tt fit.in_cells;
     spots = spots_put w.getting w.cells x old from v None is fit.spots;
   }
 
   pub fit_one_more : {stack : List Thing} {frames : List Holder} {w : World} → Fit stack frames w → Fit stack frames (one_more c w)
   fit_one_more {stack} {frames} {w} fit = record {
-    on_stack = all_more value w.accesses stack fit.on_stack; in_cells = cells_more value w.accesses w.cells fit.in_cells;
-    in_frames = frames_more value w.accesses frames fit.in_frames; below = below_more w.accesses (suc w.accesses) w.flying (omega arith) fit.below;
-    fit = fit.fit; gets = fit.gets; spots = fit.spots;
+    on_stack = all_more value w.accesses stack fit.on_stack;
+    in_cells = cells_more value w.accesses w.cells fit.in_cells;
+    in_frames = frames_more value w.accesses frames fit.in_frames;
+    below = below_more w.accesses (suc w.accesses) w.flying (omega arith) fit.below;
+    fit = fit.fit;
+    gets = fit.gets;
+    spots = fit.spots;
   }
 
   pub fit_flown : (site : ℕ) (p : Place) {stack : List Thing} {frames : List Holder} {w : World} → (site ≡ 0 → ⊥)
       → fits c.here.layout p (value w.accesses) ≡ true → Fit stack frames w → Fit stack frames (flown c w site p)
   fit_flown site p {stack} {frames} {w} z fits_ fit = record {
-    on_stack = all_more value w.accesses stack fit.on_stack; in_cells = cells_more value w.accesses w.cells fit.in_cells;
+    on_stack = all_more value w.accesses stack fit.on_stack;
+    in_cells = cells_more value w.accesses w.cells fit.in_cells;
     in_frames = frames_more value w.accesses frames fit.in_frames;
     below = below_new w.accesses (suc w.accesses) w.flying (token c w site p) (omega arith) refl fit.below;
     fit = fit_add value c.here.layout w.flying (token c w site p) (λ n. fits_) fit.fit;
@@ -141,7 +152,11 @@ module _ (c : Setup) (value : ℕ → Value) where
   fit_filled site x p old from {w = w} z fits_ is fit =
       let f = fit_flown site p z fits_ fit in
       record {
-        on_stack = f.on_stack; in_frames = f.in_frames; below = f.below; fit = f.fit; gets = f.gets;
+        on_stack = f.on_stack;
+        in_frames = f.in_frames;
+        below = f.below;
+        fit = f.fit;
+        gets = f.gets;
         in_cells = cells_top value (suc w.accesses) w.cells x (fetched c value w site p) (refl, omega arith, z) f.in_cells;
         spots = spots_put w.getting w.cells x old from (value w.accesses) (Some (token c w site p)) is fit.spots;
       }
@@ -186,7 +201,8 @@ module _ (c : Setup) (value : ℕ → Value) where
   fit_synced {stack} {frames} {w} fit =
       let l = got_length w fit in
       record {
-        on_stack = fit.on_stack; in_frames = fit.in_frames;
+        on_stack = fit.on_stack;
+        in_frames = fit.in_frames;
         in_cells = subst (CellsGiven value w.accesses) (sym (sync_fills w.getting (got c value w) w.cells l fit.spots)) (fills_given w.accesses (got c value w) w.cells fit.in_cells);
         below = below_without w.accesses 0 w.flying fit.below;
         fit = fit_without value c.here.layout 0 w.flying fit.fit;
@@ -197,15 +213,25 @@ module _ (c : Setup) (value : ℕ → Value) where
   pub fit_called : (vs : List Value) (others left end : ℕ) (rest : List Thing) {frames : List Holder} {w : World} → Fit rest frames w
       → Fit [] (record { pc = end; stack = rest } ∷ frames) (record w { cells = called_with c vs others ∷ w.cells; left = left })
   fit_called vs others left end rest {frames} {w} fit = record {
-    on_stack = tt; in_cells = (called_given value c w.accesses vs others, fit.in_cells); in_frames = (fit.on_stack, fit.in_frames);
-    below = fit.below; fit = fit.fit; gets = fit.gets; spots = spots_called c w.getting vs others w.cells fit.spots;
+    on_stack = tt;
+    in_cells = (called_given value c w.accesses vs others, fit.in_cells);
+    in_frames = (fit.on_stack, fit.in_frames);
+    below = fit.below;
+    fit = fit.fit;
+    gets = fit.gets;
+    spots = spots_called c w.getting vs others w.cells fit.spots;
   }
 
   pub fit_returned : (v : Value) {stack : List Thing} (f : Holder) {frames : List Holder} {w : World}
       → ((x n : ℕ) → slice_get (newest w.cells) x ≡ Some (awaited n) → ⊥) → Fit stack (f ∷ frames) w → Fit (plain v ∷ f.stack) frames (record w { cells = older w.cells })
   fit_returned v f {frames} {w} none fit = record {
-    on_stack = (tt, fit.in_frames.0); in_cells = cells_older value w.accesses w.cells fit.in_cells; in_frames = fit.in_frames.1;
-    below = fit.below; fit = fit.fit; gets = fit.gets; spots = spots_older w.getting w.cells none fit.spots;
+    on_stack = (tt, fit.in_frames.0);
+    in_cells = cells_older value w.accesses w.cells fit.in_cells;
+    in_frames = fit.in_frames.1;
+    below = fit.below;
+    fit = fit.fit;
+    gets = fit.gets;
+    spots = spots_older w.getting w.cells none fit.spots;
   }
 
   -- ---- the machine's states
@@ -225,7 +251,7 @@ module _ (c : Setup) (value : ℕ → Value) where
   read_state end site p rest frames w fit =
       let t = token c w site p in
       let top : Landing site (length (reads_on site (flights w.flying))) ≡ mask (w.flying ++ t ∷ []) (fetched c value w site p) =
-            ap (Landing site) (number_is site w.flying) ∙ sym (new_mask w.flying t (value w.accesses) fit.below) in
+      ap (Landing site) (number_is site w.flying) ∙ sym (new_mask w.flying t (value w.accesses) fit.below) in
       same_state value w.left
       (same_frame value end
       (ap (λ o. o ∷ mask_all w.flying rest) top ∙ ap (λ l. mask (w.flying ++ t ∷ []) (fetched c value w site p) ∷ l) (sym (old_all value w.accesses w.flying t rest refl fit.on_stack)))
@@ -253,7 +279,7 @@ module _ (c : Setup) (value : ℕ → Value) where
   fill_state end site x p rest frames w fit =
       let t = token c w site p in
       let top : Holds (Landing site (length (reads_on site (flights w.flying)))) ≡ mask_slot (w.flying ++ t ∷ []) (fetched c value w site p) =
-            ap (λ n. Holds (Landing site n)) (number_is site w.flying) ∙ ap Holds (sym (new_mask w.flying t (value w.accesses) fit.below)) in
+      ap (λ n. Holds (Landing site n)) (number_is site w.flying) ∙ ap Holds (sym (new_mask w.flying t (value w.accesses) fit.below)) in
       same_state value w.left
       (same_frame value end (sym (old_all value w.accesses w.flying t rest refl fit.on_stack))
       (ap (slice_set (mask_slots w.flying (newest w.cells)) x) top ∙ locals_after t x (fetched c value w site p) w refl fit.in_cells))
@@ -266,7 +292,7 @@ module _ (c : Setup) (value : ℕ → Value) where
   get_state end x p rest frames w fit =
       let t = token c w 0 p in
       let number : length (reads_on 0 (flights w.flying)) ≡ length w.getting =
-            number_is 0 w.flying ∙ sym (length-map (on_counter 0 w.flying) place_of) ∙ sym (ap length fit.gets) ∙ length-map w.getting spot_place in
+      number_is 0 w.flying ∙ sym (length-map (on_counter 0 w.flying) place_of) ∙ sym (ap length fit.gets) ∙ length-map w.getting spot_place in
       same_state value w.left
       (same_frame value end (sym (old_all value w.accesses w.flying t rest refl fit.on_stack))
       (ap (λ n. slice_set (mask_slots w.flying (newest w.cells)) x (Pending n)) number ∙ locals_after t x (awaited (length w.getting)) w refl fit.in_cells))
@@ -285,8 +311,8 @@ module _ (c : Setup) (value : ℕ → Value) where
   sync_slots n getting vs fl level [] e l known h = refl
   sync_slots n getting vs fl level (val v from ∷ xs) e l known h =
       let a : Holds (land 0 vs (mask_from fl v from)) ≡ mask_slot (without 0 fl) (fill_all 0 vs (val v from)) =
-            ap Holds (subst (λ vs. land 0 vs (mask_from fl v from) ≡ mask_from (without 0 fl) v from) (sym e) (land_from value n 0 fl v from h.0))
-            ∙ ap (mask_slot (without 0 fl)) (sym (fill_all_val 0 vs v from)) in
+      ap Holds (subst (λ vs. land 0 vs (mask_from fl v from) ≡ mask_from (without 0 fl) v from) (sym e) (land_from value n 0 fl v from h.0))
+      ∙ ap (mask_slot (without 0 fl)) (sym (fill_all_val 0 vs v from)) in
       let b = sync_slots n getting vs fl level xs e l (λ m x is. known m (suc x) is) h.1 in cc
   sync_slots n getting vs fl level (awaited m ∷ xs) e l known h =
       let k = known m zero refl in
@@ -315,10 +341,10 @@ module _ (c : Setup) (value : ℕ → Value) where
   sync_callers n getting vs fl [] fs e l k h g = refl
   sync_callers n getting vs fl (f ∷ hs) fs e l k h g =
       let a = same_frame value f.pc (subst (λ vs. map (land 0 vs) (mask_all fl f.stack) ≡ mask_all (without 0 fl) f.stack) (sym e) (land_all value n 0 fl f.stack h.0))
-            (sync_slots n getting vs fl 0 (newest fs) e l (known_newest getting fs k) (cells_newest value n fs g)
-            ∙ ap (mask_slots (without 0 fl)) (sym (newest_map (map (fill_all 0 vs)) fs refl))) in
+      (sync_slots n getting vs fl 0 (newest fs) e l (known_newest getting fs k) (cells_newest value n fs g)
+      ∙ ap (mask_slots (without 0 fl)) (sym (newest_map (map (fill_all 0 vs)) fs refl))) in
       let b = sync_callers n getting vs fl hs (older fs) e l (known_older getting fs k) h.1 (cells_older value n fs g)
-            ∙ ap (mask_callers (without 0 fl) hs) (sym (older_map (map (fill_all 0 vs)) fs)) in cc
+      ∙ ap (mask_callers (without 0 fl) hs) (sym (older_map (map (fill_all 0 vs)) fs)) in cc
 
   pub sync_state : (end : ℕ) (rest : List Thing) (frames : List Holder) (w : World) → Fit rest frames w
       → landed 0 (landing value 0 w.flying) (state_of end rest frames w) ≡ state_of end rest frames (after_sync c value w)

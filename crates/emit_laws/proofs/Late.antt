@@ -350,7 +350,6 @@ module _ (c : Setup) (timely : Timely c) (value : ℕ → Value) (m : Motive c v
   late {frames = frames} {w} (enter {pc = pc} {stage = stage} t {stack = stack} {d = d} goes at_ r) fit = λ coming h D lead.
       entering_by t pc stack frames w d h D goes
       (entering_stage t pc stage stack frames w d at_ fit (still c timely t w coming goes) (late r (fit_entered t fit))) lead
-
   late {frames = frames} {w} {d} (step_makes {end = end} {stack = stack} {rest = rest} xs v ready e r) fit =
       made_by _ _ _ _ xs (makes v) ready e fit (λ site calm.
       m.on (now_at w.at true w) (state_of end (plain v ∷ rest) frames w) d
@@ -404,7 +403,6 @@ module _ (c : Setup) (timely : Timely c) (value : ℕ → Value) (m : Motive c v
       (counted_by h (λ left. Stops (Finishes (Fault Depth line))) _ w.left (λ k is.
       by_move c timely value m h (Stops (Finishes (Fault Depth line))) (ap Comes (too_deep_ line (length frames) s _ (length_callers c value w.flying frames (older w.cells)) many))
       (m.ends h (Fault Depth line)))))
-
   late {frames = frames} {w} {d} (act_lets_go {end = end} {stack = stack} {rest = rest} xs ready e r) fit =
       done_by _ _ _ _ xs lets_go ready e fit (λ site calm.
       m.on (now_at w.at true w) (state_of end rest frames w) d
@@ -481,7 +479,6 @@ module _ (c : Setup) (timely : Timely c) (value : ℕ → Value) (m : Motive c v
       done_by _ _ _ _ xs (prints text) ready e fit (λ at_site calm.
       m.says (now_at w.at true w) text (state_of end rest frames w) d
       (late r (with_stack c value rest (rest_given c value w.accesses stack xs rest ready fit.on_stack) fit) (coming_on c timely w calm) (now_at w.at true w) d (direct true)))
-
   late {frames = frames} {w} (tests {of_pointer = of_pointer} {target = target} {end = end} {stack = stack} {on = on} {off = off} x may r s) fit = λ calm n pc at_.
       let h = now_at w.at true w in
       let fit_rest = with_stack c value stack fit.on_stack.1 fit in

@@ -90,7 +90,7 @@ module _ (c : Setup) (timely : Timely c) (value : ℕ → Value) (m : Motive c v
         let s = state_of (pc + 1) rest frames w in
         let r' = subst (λ ops. RunAt c w.at n pc [] ops line end) e r in
         let law = subst (λ ops. does_ops c.code c.here.layout c.here.node line ops (with_values vs s) ≡ gain_done c.code site track line s (made_of c.here.layout c.here.node o vs)) e
-              (steps_are_their_instructions c.code c.here.layout c.here.node line site (c.one_way site) o vs s at_site row (length_worths xs ∙ ready.count)) in
+        (steps_are_their_instructions c.code c.here.layout c.here.node line site (c.one_way site) o vs s at_site row (length_worths xs ∙ ready.count)) in
         by_move h d
         (fetched_op line o1 (state_of pc stack frames w) r'.1
         ∙ ap (does_ o1 line) (valued (pc + 1) (arguments_of o) stack xs rest frames w ready still given)
@@ -101,9 +101,9 @@ module _ (c : Setup) (timely : Timely c) (value : ℕ → Value) (m : Motive c v
     two_ops : (o1 o2 : Op) (p : Pure) (vs : List Value) (below : List Operand) (k : Value → Made)
         → RunAt c w.at n pc [] (o1 ∷ o2 ∷ []) line end
         → (let s = with_stack below (state_of (pc + 1) rest frames w) in
-          does_ o1 line (state_of (pc + 1) stack frames w) ≡ gain_done c.code site track line s (made_by (computed c.here.layout c.here.node p vs)))
+        does_ o1 line (state_of (pc + 1) stack frames w) ≡ gain_done c.code site track line s (made_by (computed c.here.layout c.here.node p vs)))
         → ((v : Value) → (let s = with_stack below (state_of (pc + 1) rest frames w) in
-          does_ o2 line (at_instr (pc + 1 + 1) (pushed (Here v) s)) ≡ gain_done c.code site track line (state_of (pc + 1 + 1) rest frames w) (k v)))
+        does_ o2 line (at_instr (pc + 1 + 1) (pushed (Here v) s)) ≡ gain_done c.code site track line (state_of (pc + 1 + 1) rest frames w) (k v)))
         → m.By h (gain_done c.code site track line (state_of end rest frames w) (then_made (computed c.here.layout c.here.node p vs) k)) d
         → m.By h (step_ (state_of pc stack frames w)) d
     two_ops o1 o2 p vs below k r first second done =
@@ -246,8 +246,8 @@ module _ (c : Setup) (timely : Timely c) (value : ℕ → Value) (m : Motive c v
       let s = state_of (pc + 1) rest frames w in
       let r' = subst (λ ops. RunAt c w.at n pc [] ops line end) (e site) r in
       let law = subst (λ ops. does_ops c.code c.here.layout c.here.node line ops (with_values vs s)
-            ≡ act_done site (action_track site a) line s (done_of c.here.layout c.code.texts a vs)) (e site)
-            (actions_are_their_instructions c.code c.here.layout c.here.node line site a vs s at_site (length_worths xs ∙ ready.count)) in
+      ≡ act_done site (action_track site a) line s (done_of c.here.layout c.code.texts a vs)) (e site)
+      (actions_are_their_instructions c.code c.here.layout c.here.node line site a vs s at_site (length_worths xs ∙ ready.count)) in
       by_move h d
       (fetched_op line (o1 site) (state_of pc stack frames w) r'.1
       ∙ ap (does_ (o1 site) line) (valued (pc + 1) (arguments_of_action a) stack xs rest frames w ready still given)

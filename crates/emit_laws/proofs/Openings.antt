@@ -55,7 +55,9 @@ module _ (graph : Graph) (plan : Plan) where
 
   pub opens_on : (t u site : ℕ) → IsOpen graph plan t site → (Uses graph site t → ⊥) → (In site (waits_at plan t) → ⊥) → Goes graph t u → IsOpen graph plan u site
   opens_on t u site h unused unwaited goes = record {
-    from = h.from; read = h.read; inner = h.inner ++ t ∷ [];
+    from = h.from;
+    read = h.read;
+    inner = h.inner ++ t ∷ [];
     path = path_on (Goes graph) (λ z. Uses graph site z → ⊥) h.from h.inner t u h.path unused goes;
     unwaited = λ z i w. ⊎_elim (λ g. h.unwaited z g w) (λ g. at_last z w g) (in_cases z h.inner (t ∷ []) i);
   }

@@ -93,9 +93,9 @@ module _ (plan : Plan) where
         let r = tests_some of_pointer at_off in
         let f = total_is off (t + 1 + size on) (s' + accesses on) at_off in
         let h : total plan (items plan (choice of_pointer test on off) k s pc)
-              ≡ width plan test k + run_width plan t (test_width of_pointer) + width plan on (t + 1) + (1 + width plan off (t + 1 + size on)) =
-              sum2 _ _ _ _ (sum2 _ _ _ _ (sum2 _ _ _ _ (total_is test k s pc) (item_total t 0 (test_ops of_pointer at_off) r.0 ∙ ap (run_width plan t) r.1)) (total_is on (t + 1) s' at_on))
-              (ap (λ n. 1 + n) f) in
+        ≡ width plan test k + run_width plan t (test_width of_pointer) + width plan on (t + 1) + (1 + width plan off (t + 1 + size on)) =
+        sum2 _ _ _ _ (sum2 _ _ _ _ (sum2 _ _ _ _ (total_is test k s pc) (item_total t 0 (test_ops of_pointer at_off) r.0 ∙ ap (run_width plan t) r.1)) (total_is on (t + 1) s' at_on))
+        (ap (λ n. 1 + n) f) in
         omega (arith, h)
     total_is (update pointer o right back line) k s pc =
         let t = k + size pointer in
@@ -105,10 +105,10 @@ module _ (plan : Plan) where
         let write = join + accesses_by o in
         let at_right = pc + width plan pointer k + 1 + run_width plan t 1 in
         let h : total plan (items plan (update pointer o right back line) k s pc)
-              ≡ width plan pointer k + (1 + run_width plan t 1) + width plan right (t + 1) + run_width plan u (ops_width o) + run_width plan (u + 1) 1 + back_width plan back (u + 2) =
-              sum2 _ _ _ _ (sum2 _ _ _ _ (sum2 _ _ _ _ (sum2 _ _ _ _ (sum2 _ _ _ _ (total_is pointer k s pc) (ap (λ n. 1 + n) (item_total t line (op.Read (suc read) ∷ []) tt)))
-              (total_is right (t + 1) (read + 1) at_right)) (step_total o line u join)) (item_total (u + 1) line (write_op (goes_one_way plan (suc write)) (suc write) ∷ []) tt))
-              (back_total back line (u + 2) (write + 1)) in
+        ≡ width plan pointer k + (1 + run_width plan t 1) + width plan right (t + 1) + run_width plan u (ops_width o) + run_width plan (u + 1) 1 + back_width plan back (u + 2) =
+        sum2 _ _ _ _ (sum2 _ _ _ _ (sum2 _ _ _ _ (sum2 _ _ _ _ (sum2 _ _ _ _ (total_is pointer k s pc) (ap (λ n. 1 + n) (item_total t line (op.Read (suc read) ∷ []) tt)))
+        (total_is right (t + 1) (read + 1) at_right)) (step_total o line u join)) (item_total (u + 1) line (write_op (goes_one_way plan (suc write)) (suc write) ∷ []) tt))
+        (back_total back line (u + 2) (write + 1)) in
         omega (arith, h)
 
     pub totals_are : (es : Arguments) (k s pc : ℕ) → total plan (items_all plan es k s pc) ≡ widths plan es k
@@ -179,7 +179,9 @@ module _ (c : Setup) (plan : Plan) (waits : (t : ℕ) → c.waits t ≡ waits_at
       let r = ops_some (goes_one_way plan (suc s)) (suc s) o in
       let ops = ops_of (goes_one_way plan (suc s)) (suc s) o in
       record {
-        counted = formed.0; at_site = formed.1; row = formed.2;
+        counted = formed.0;
+        at_site = formed.1;
+        row = formed.2;
         run = subst (λ b. PointAt c t pc (ops_of b (suc s) o) line end) (sym (one_way (suc s)))
             (run_of t line pc end ops r.0 formed.3 h (e ∙ ap (λ n. pc + run_width plan t n) (sym r.1)));
       }
@@ -189,7 +191,8 @@ module _ (c : Setup) (plan : Plan) (waits : (t : ℕ) → c.waits t ≡ waits_at
   act_lies a count t site pc line end formed h e =
       let r = actions_some site a in
       record {
-        counted = formed.0; at_site = formed.1;
+        counted = formed.0;
+        at_site = formed.1;
         run = run_of t line pc end (ops_of_action site a) r.0 formed.2 h (e ∙ ap (λ n. pc + run_width plan t n) (sym r.1));
       }
 
@@ -210,10 +213,12 @@ module _ (c : Setup) (plan : Plan) (waits : (t : ℕ) → c.waits t ≡ waits_at
     lies (step o arguments line) k s pc end formed h e =
         let p = pc + widths plan arguments k in
         let first = items_all plan arguments k s pc in
-        let rest = step_items plan o line (k + sizes arguments) (s + accesses_all arguments) in
-        (p, all_lie arguments k s pc p formed.0 (front pc first rest h) refl,
-        step_lies o (count_of arguments) (k + sizes arguments) (s + accesses_all arguments) p line end formed.1
-        (back pc p first rest (ap (λ n. pc + n) (sym (totals_are plan arguments k s pc))) h) (omega (arith, e)))
+        let rest = step_items plan o line (k + sizes arguments) (s + accesses_all arguments) in (
+          p,
+          all_lie arguments k s pc p formed.0 (front pc first rest h) refl,
+          step_lies o (count_of arguments) (k + sizes arguments) (s + accesses_all arguments) p line end formed.1
+              (back pc p first rest (ap (λ n. pc + n) (sym (totals_are plan arguments k s pc))) h) (omega (arith, e)),
+        )
     lies (choice of_pointer test on off) k s pc end formed h e =
         let t = k + size test in
         let s' = s + accesses test in
@@ -234,13 +239,17 @@ module _ (c : Setup) (plan : Plan) (waits : (t : ℕ) → c.waits t ≡ waits_at
         let f123 = total_append plan (a1 ++ a2) a3 in
         let h123 = front pc ((a1 ++ a2) ++ a3) a4 h in
         let h12 = front pc (a1 ++ a2) a3 h123 in
-        let h4 = back pc v ((a1 ++ a2) ++ a3) a4 (omega (arith, e1, e2, e3, f12, f123)) h in
-        (p, at_on, at_off, v,
-        lies test k s pc p formed.0 (front pc a1 a2 h12) refl,
-        run_of t 0 p at_on (test_ops of_pointer at_off) r.0 formed.1 (back pc p a1 a2 (omega (arith, e1)) h12) (ap (λ n. p + run_width plan t n) (sym r.1)),
-        lies on (t + 1) s' at_on v formed.2 (back pc at_on (a1 ++ a2) a3 (omega (arith, e1, e2, f12)) h123) refl,
-        jump_lies v to end (omega (arith, e)) h4.0,
-        lies off (t + 1 + size on) (s' + accesses on) at_off end formed.3 h4.1 (omega (arith, e)))
+        let h4 = back pc v ((a1 ++ a2) ++ a3) a4 (omega (arith, e1, e2, e3, f12, f123)) h in (
+          p,
+          at_on,
+          at_off,
+          v,
+          lies test k s pc p formed.0 (front pc a1 a2 h12) refl,
+          run_of t 0 p at_on (test_ops of_pointer at_off) r.0 formed.1 (back pc p a1 a2 (omega (arith, e1)) h12) (ap (λ n. p + run_width plan t n) (sym r.1)),
+          lies on (t + 1) s' at_on v formed.2 (back pc at_on (a1 ++ a2) a3 (omega (arith, e1, e2, f12)) h123) refl,
+          jump_lies v to end (omega (arith, e)) h4.0,
+          lies off (t + 1 + size on) (s' + accesses on) at_off end formed.3 h4.1 (omega (arith, e)),
+        )
     lies (update pointer o right b line) k s pc end formed h e =
         let t = k + size pointer in
         let u = t + 1 + size right in
@@ -271,21 +280,29 @@ module _ (c : Setup) (plan : Plan) (waits : (t : ℕ) → c.waits t ≡ waits_at
         let h4 = front pc (((a1 ++ a2) ++ a3) ++ a4) a5 h5 in
         let h3 = front pc ((a1 ++ a2) ++ a3) a4 h4 in
         let h2 = front pc (a1 ++ a2) a3 h3 in
-        let g2 = back pc p a1 a2 (omega (arith, e1)) h2 in
-        (p, p + 1, at_right, v, x, y,
-        lies pointer k s pc p formed.0 (front pc a1 a2 h2) refl,
-        g2.0,
-        step_lies does.Read 1 t read (p + 1) line at_right formed.1 g2.1 refl,
-        lies right (t + 1) (read + 1) at_right v formed.2 (back pc at_right (a1 ++ a2) a3 (omega (arith, e1, e2, f2)) h3) refl,
-        step_lies o 2 u join v line x formed.3 (back pc v ((a1 ++ a2) ++ a3) a4 (omega (arith, e1, e2, e3, f2, f3)) h4) refl,
-        step_lies does.Write 2 (u + 1) write x line y formed.4 (back pc x (((a1 ++ a2) ++ a3) ++ a4) a5 (omega (arith, e1, e2, e3, e4, f2, f3, f4)) h5) refl,
-        back_lies b (u + 2) (write + 1) y line end formed.5 (back pc y ((((a1 ++ a2) ++ a3) ++ a4) ++ a5) a6 (omega (arith, e1, e2, e3, e4, e5, f2, f3, f4, f5)) h) (omega (arith, e)))
+        let g2 = back pc p a1 a2 (omega (arith, e1)) h2 in (
+          p,
+          p + 1,
+          at_right,
+          v,
+          x,
+          y,
+          lies pointer k s pc p formed.0 (front pc a1 a2 h2) refl,
+          g2.0,
+          step_lies does.Read 1 t read (p + 1) line at_right formed.1 g2.1 refl,
+          lies right (t + 1) (read + 1) at_right v formed.2 (back pc at_right (a1 ++ a2) a3 (omega (arith, e1, e2, f2)) h3) refl,
+          step_lies o 2 u join v line x formed.3 (back pc v ((a1 ++ a2) ++ a3) a4 (omega (arith, e1, e2, e3, f2, f3)) h4) refl,
+          step_lies does.Write 2 (u + 1) write x line y formed.4 (back pc x (((a1 ++ a2) ++ a3) ++ a4) a5 (omega (arith, e1, e2, e3, e4, f2, f3, f4)) h5) refl,
+          back_lies b (u + 2) (write + 1) y line end formed.5 (back pc y ((((a1 ++ a2) ++ a3) ++ a4) ++ a5) a6 (omega (arith, e1, e2, e3, e4, e5, f2, f3, f4, f5)) h) (omega (arith, e)),
+        )
 
     pub all_lie : (es : Arguments) (k s pc end : ℕ) → FormedAll es k s → HasItems pc (items_all plan es k s pc) → end ≡ pc + widths plan es k → LieAll c es k s pc end
     all_lie none k s pc end formed h e = omega (arith, e)
     all_lie (argument x more) k s pc end formed h e =
         let p = pc + width plan x k in
         let a = items plan x k s pc in
-        let b = items_all plan more (k + size x) (s + accesses x) p in
-        (p, lies x k s pc p formed.0 (front pc a b h) refl,
-        all_lie more (k + size x) (s + accesses x) p end formed.1 (back pc p a b (ap (λ n. pc + n) (sym (total_is plan x k s pc))) h) (omega (arith, e)))
+        let b = items_all plan more (k + size x) (s + accesses x) p in (
+          p,
+          lies x k s pc p formed.0 (front pc a b h) refl,
+          all_lie more (k + size x) (s + accesses x) p end formed.1 (back pc p a b (ap (λ n. pc + n) (sym (total_is plan x k s pc))) h) (omega (arith, e)),
+        )

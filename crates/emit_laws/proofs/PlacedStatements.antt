@@ -34,9 +34,9 @@ module _ (plan : Plan) where
       let r = tests_some of_pointer at_off in
       let f = total_in off (t + 1 + size_of on) (s' + accesses_in on) out again at_off in
       let h : total plan (items_in plan (choose of_pointer test on off) k s out again pc)
-            ≡ width plan test k + run_width plan t (test_width of_pointer) + width_in plan on (t + 1) + (1 + width_in plan off (t + 1 + size_of on)) =
-            sum2 plan _ _ _ _ (sum2 plan _ _ _ _ (sum2 plan _ _ _ _ (total_is plan test k s pc) (item_total plan t 0 (test_ops of_pointer at_off) r.0 ∙ ap (run_width plan t) r.1))
-            (total_in on (t + 1) s' out again at_on)) (ap (λ n. 1 + n) f) in
+      ≡ width plan test k + run_width plan t (test_width of_pointer) + width_in plan on (t + 1) + (1 + width_in plan off (t + 1 + size_of on)) =
+      sum2 plan _ _ _ _ (sum2 plan _ _ _ _ (sum2 plan _ _ _ _ (total_is plan test k s pc) (item_total plan t 0 (test_ops of_pointer at_off) r.0 ∙ ap (run_width plan t) r.1))
+      (total_in on (t + 1) s' out again at_on)) (ap (λ n. 1 + n) f) in
       omega (arith, h)
   total_in (loop mine before body after) k s out again pc =
       let t = k + size_of before in
@@ -93,17 +93,21 @@ module _ (c : Setup) (plan : Plan) (waits : (t : ℕ) → c.waits t ≡ waits_at
   lie (then_ a b) k s out again pc end formed h e =
       let p = pc + width_in plan a k in
       let x = items_in plan a k s out again pc in
-      let y = items_in plan b (k + size_of a) (s + accesses_in a) out again p in
-      (p, lie a k s out again pc p formed.0 (fr pc x y h) refl,
-      lie b (k + size_of a) (s + accesses_in a) out again p end formed.1 (bk pc p x y (ap (λ n. pc + n) (sym (total_in plan a k s out again pc))) h) (omega (arith, e)))
+      let y = items_in plan b (k + size_of a) (s + accesses_in a) out again p in (
+        p,
+        lie a k s out again pc p formed.0 (fr pc x y h) refl,
+        lie b (k + size_of a) (s + accesses_in a) out again p end formed.1 (bk pc p x y (ap (λ n. pc + n) (sym (total_in plan a k s out again pc))) h) (omega (arith, e)),
+      )
   lie (act a arguments line) k s out again pc end formed h e =
       let p = pc + widths plan arguments k in
       let t = k + sizes arguments in
       let site = suc (s + accesses_all arguments) in
       let x = items_all plan arguments k s pc in
-      let y = item_of t line (ops_of_action site a) in
-      (p, all_lie c plan waits one_way arguments k s pc p formed.0 (fr pc x y h) refl,
-      act_lies c plan waits one_way a (count_of arguments) t site p line end formed.1 (bk pc p x y (ap (λ n. pc + n) (sym (totals_are plan arguments k s pc))) h) (omega (arith, e)))
+      let y = item_of t line (ops_of_action site a) in (
+        p,
+        all_lie c plan waits one_way arguments k s pc p formed.0 (fr pc x y h) refl,
+        act_lies c plan waits one_way a (count_of arguments) t site p line end formed.1 (bk pc p x y (ap (λ n. pc + n) (sym (totals_are plan arguments k s pc))) h) (omega (arith, e)),
+      )
   lie (choose of_pointer test on off) k s out again pc end formed h e =
       let t = k + size test in
       let s' = s + accesses test in
@@ -124,13 +128,17 @@ module _ (c : Setup) (plan : Plan) (waits : (t : ℕ) → c.waits t ≡ waits_at
       let f123 = total_append plan (a1 ++ a2) a3 in
       let h123 = fr pc ((a1 ++ a2) ++ a3) a4 h in
       let h12 = fr pc (a1 ++ a2) a3 h123 in
-      let h4 = bk pc v ((a1 ++ a2) ++ a3) a4 (omega (arith, e1, e2, e3, f12, f123)) h in
-      (p, at_on, at_off, v,
-      lies c plan waits one_way test k s pc p formed.0 (fr pc a1 a2 h12) refl,
-      run_of c plan waits one_way t 0 p at_on (test_ops of_pointer at_off) r.0 formed.1 (bk pc p a1 a2 (omega (arith, e1)) h12) (ap (λ n. p + run_width plan t n) (sym r.1)),
-      lie on (t + 1) s' out again at_on v formed.2 (bk pc at_on (a1 ++ a2) a3 (omega (arith, e1, e2, f12)) h123) refl,
-      jump_lies c plan waits one_way v to end (omega (arith, e)) h4.0,
-      lie off (t + 1 + size_of on) (s' + accesses_in on) out again at_off end formed.3 h4.1 (omega (arith, e)))
+      let h4 = bk pc v ((a1 ++ a2) ++ a3) a4 (omega (arith, e1, e2, e3, f12, f123)) h in (
+        p,
+        at_on,
+        at_off,
+        v,
+        lies c plan waits one_way test k s pc p formed.0 (fr pc a1 a2 h12) refl,
+        run_of c plan waits one_way t 0 p at_on (test_ops of_pointer at_off) r.0 formed.1 (bk pc p a1 a2 (omega (arith, e1)) h12) (ap (λ n. p + run_width plan t n) (sym r.1)),
+        lie on (t + 1) s' out again at_on v formed.2 (bk pc at_on (a1 ++ a2) a3 (omega (arith, e1, e2, f12)) h123) refl,
+        jump_lies c plan waits one_way v to end (omega (arith, e)) h4.0,
+        lie off (t + 1 + size_of on) (s' + accesses_in on) out again at_off end formed.3 h4.1 (omega (arith, e)),
+      )
   lie (loop mine before body after) k s out again pc end formed h e =
       let t = k + size_of before in
       let u = t + 1 + size_of body in
@@ -158,16 +166,22 @@ module _ (c : Setup) (plan : Plan) (waits : (t : ℕ) → c.waits t ≡ waits_at
       let h3 = fr pc ((a1 ++ a2) ++ a3) a4 h4 in
       let h2 = fr pc (a1 ++ a2) a3 h3 in
       let h5 = bk pc v (((a1 ++ a2) ++ a3) ++ a4) a5 (omega (arith, e1, e2, e3, e4, f2, f3, f4)) h in
-      subst (λ x. Lie c (loop mine before body after) k s out again pc x) same
-      (p, at_body, at_after, v,
-      lie before k s over again pc p formed.0 (fr pc a1 a2 h2) refl,
-      run_of c plan waits one_way t 0 p at_body (op.Turn ∷ []) tt formed.1 (bk pc p a1 a2 (omega (arith, e1)) h2) refl,
-      lie body (t + 1) s_body over at_after at_body at_after formed.2 (bk pc at_body (a1 ++ a2) a3 (omega (arith, e1, e2, f2)) h3) refl,
-      lie after u (s_body + accesses_in body) over again at_after v formed.3 (bk pc at_after ((a1 ++ a2) ++ a3) a4 (omega (arith, e1, e2, e3, f2, f3)) h4) refl,
-      jump_lies c plan waits one_way v pc pc refl h5.0)
+      subst (λ x. Lie c (loop mine before body after) k s out again pc x) same (
+        p,
+        at_body,
+        at_after,
+        v,
+        lie before k s over again pc p formed.0 (fr pc a1 a2 h2) refl,
+        run_of c plan waits one_way t 0 p at_body (op.Turn ∷ []) tt formed.1 (bk pc p a1 a2 (omega (arith, e1)) h2) refl,
+        lie body (t + 1) s_body over at_after at_body at_after formed.2 (bk pc at_body (a1 ++ a2) a3 (omega (arith, e1, e2, f2)) h3) refl,
+        lie after u (s_body + accesses_in body) over again at_after v formed.3 (bk pc at_after ((a1 ++ a2) ++ a3) a4 (omega (arith, e1, e2, e3, f2, f3)) h4) refl,
+        jump_lies c plan waits one_way v pc pc refl h5.0,
+      )
   lie (return e line) k s out again pc end formed h eq =
       let p = pc + width plan e k in
       let a = items plan e k s pc in
-      let b = item_of (k + size e) line (op.Ret ∷ []) in
-      (p, lies c plan waits one_way e k s pc p formed.0 (fr pc a b h) refl,
-      run_of c plan waits one_way (k + size e) line p end (op.Ret ∷ []) tt formed.1 (bk pc p a b (ap (λ n. pc + n) (sym (total_is plan e k s pc))) h) (omega (arith, eq)))
+      let b = item_of (k + size e) line (op.Ret ∷ []) in (
+        p,
+        lies c plan waits one_way e k s pc p formed.0 (fr pc a b h) refl,
+        run_of c plan waits one_way (k + size e) line p end (op.Ret ∷ []) tt formed.1 (bk pc p a b (ap (λ n. pc + n) (sym (total_is plan e k s pc))) h) (omega (arith, eq)),
+      )

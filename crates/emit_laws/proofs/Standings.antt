@@ -31,15 +31,17 @@ module _ (c : Setup) (plan : Plan) (waits : (t : ℕ) → c.waits t ≡ waits_at
 
   instrs_from : (pc : ℕ) (xs ys : List Instr) → pc ≡ length xs → c.code.instrs ≡ xs ++ ys → HasInstrs pc ys
   instrs_from pc xs [] e whole = tt
-  instrs_from pc xs (y ∷ ys) e whole =
-      (ap (λ l. slice_get l pc) whole ∙ ap (slice_get (xs ++ y ∷ ys)) e ∙ get_seam xs y ys,
-      instrs_from (pc + 1) (xs ++ y ∷ []) ys (let l = length-append xs (y ∷ []) in omega (arith, e, l)) (whole ∙ sym (append_one xs y ys)))
+  instrs_from pc xs (y ∷ ys) e whole = (
+    ap (λ l. slice_get l pc) whole ∙ ap (slice_get (xs ++ y ∷ ys)) e ∙ get_seam xs y ys,
+    instrs_from (pc + 1) (xs ++ y ∷ []) ys (let l = length-append xs (y ∷ []) in omega (arith, e, l)) (whole ∙ sym (append_one xs y ys)),
+  )
 
   stands_from_ : (all : List (Option Stands)) (pc : ℕ) (xs ys : List (Option Stands)) → ((pc : ℕ) → c.stands pc ≡ flat (slice_get all pc)) → pc ≡ length xs → all ≡ xs ++ ys → HasStands pc ys
   stands_from_ all pc xs [] at_ e whole = tt
-  stands_from_ all pc xs (y ∷ ys) at_ e whole =
-      (at_ pc ∙ ap (λ l. flat (slice_get l pc)) whole ∙ ap (λ n. flat (slice_get (xs ++ y ∷ ys) n)) e ∙ ap flat (get_seam xs y ys),
-      stands_from_ all (pc + 1) (xs ++ y ∷ []) ys at_ (let l = length-append xs (y ∷ []) in omega (arith, e, l)) (whole ∙ sym (append_one xs y ys)))
+  stands_from_ all pc xs (y ∷ ys) at_ e whole = (
+    at_ pc ∙ ap (λ l. flat (slice_get l pc)) whole ∙ ap (λ n. flat (slice_get (xs ++ y ∷ ys) n)) e ∙ ap flat (get_seam xs y ys),
+    stands_from_ all (pc + 1) (xs ++ y ∷ []) ys at_ (let l = length-append xs (y ∷ []) in omega (arith, e, l)) (whole ∙ sym (append_one xs y ys)),
+  )
 
   instrs_back : (pc q : ℕ) (a b : List Instr) → q ≡ pc + length a → HasInstrs pc (a ++ b) → HasInstrs q b
   instrs_back pc q [] b e h = let f : pc ≡ q = omega (arith, e) in subst (λ n. HasInstrs n b) f h
@@ -93,9 +95,10 @@ module _ (c : Setup) (plan : Plan) (waits : (t : ℕ) → c.waits t ≡ waits_at
       let lo = length-map (o ∷ more) (instr line) in
       let lb = length-append (waits_from t 0 ws) (stands_ops plan t (length ws) (o ∷ more)) in
       let mw = waits_length t 0 ws in
-      let mo = ops_length t (length ws) (o ∷ more) in
-      (waits_at_ t 0 (length ws) pc line q ws (o ∷ more) (instrs_front pc a (all_instrs plan is) i) (stands_front pc b (all_stands plan is) s) (omega arith) refl,
-      items_at q is (instrs_back pc q a (all_instrs plan is) (omega (arith, la, lw, lo)) i) (stands_back pc q b (all_stands plan is) (omega (arith, lb, mw, mo)) s))
+      let mo = ops_length t (length ws) (o ∷ more) in (
+        waits_at_ t 0 (length ws) pc line q ws (o ∷ more) (instrs_front pc a (all_instrs plan is) i) (stands_front pc b (all_stands plan is) s) (omega arith) refl,
+        items_at q is (instrs_back pc q a (all_instrs plan is) (omega (arith, la, lw, lo)) i) (stands_back pc q b (all_stands plan is) (omega (arith, lb, mw, mo)) s),
+      )
 
   -- the code is these items, and each instruction stands where their pieces say
   pub items_stand : (is : List Item) → c.code.instrs ≡ all_instrs plan is → ((pc : ℕ) → c.stands pc ≡ stands_at plan (all_pieces plan is) pc) → HasItems c plan waits one_way 0 is

@@ -121,11 +121,11 @@ module _ (c : Setup) (given : ℕ → Value) (n : ℕ) (calls_run : CallsRun c g
       (part lh.continues _ again stack bound bound' j.again (λ x i. in_left x lh.continues _ i) less cnt) done)
       (λ bound' rest' less done.
       let after_run : Go (lb.falls ++ lb.continues) code.2 stack bound' (D after u inner rest') =
-            does_run after u (s_body + accesses_in body) (lb.falls ++ lb.continues) end again code.2 code.3 stack bound' inner rest' flow.3 code.7
-            (less_back stack bound bound' j.back less back)
-            (part la.breaks _ end stack bound bound' rest (λ x i. in_right x (lh.breaks ++ lb.breaks) la.breaks i) less next)
-            (part la.continues _ again stack bound bound' j.again (λ x i. in_right x lh.continues _ i) less cnt)
-            (λ w le at_ held. jump code.8 (done w le (in_right w.at froms la.falls at_) held)) in
+      does_run after u (s_body + accesses_in body) (lb.falls ++ lb.continues) end again code.2 code.3 stack bound' inner rest' flow.3 code.7
+      (less_back stack bound bound' j.back less back)
+      (part la.breaks _ end stack bound bound' rest (λ x i. in_right x (lh.breaks ++ lb.breaks) la.breaks i) less next)
+      (part la.continues _ again stack bound bound' j.again (λ x i. in_right x lh.continues _ i) less cnt)
+      (λ w le at_ held. jump code.8 (done w le (in_right w.at froms la.falls at_) held)) in
       does_run body (t + 1) s_body (t ∷ []) end code.2 code.1 code.2 stack bound'
       (record { back = j.back; out = rest; again = D after u inner rest' }) (D after u inner rest') flow.2 code.6 (less_back stack bound bound' j.back less back)
       (part lb.breaks _ end stack bound bound' rest (λ x i. in_left x (lh.breaks ++ lb.breaks) la.breaks (in_right x lh.breaks lb.breaks i)) less next)
@@ -194,14 +194,14 @@ module _ (c : Setup) (given : ℕ → Value) (functions : (f : ℕ) (g : Functio
       let w' : World = record w { cells = called_with c vs (length g.others) ∷ w.cells; left = left } in
       let F : List Slot → Memory = λ s. record { frames = s ∷ slots w.cells; getting = w.getting } in
       let back_run : Back c given n (calls_run n) f fns frames' room' [] left back =
-            λ v from w1 t pc over_ line goes at_ may in_ le1 held1.
-            let w2 : World = record (entered c t w1) { cells = older w1.cells } in
-            enter {stage = leaving line over_} t goes at_
-            (subst (λ s. Runs c given (leaving line over_) (val v from ∷ []) frames' (entered c t w1) (none_awaits line s (go v (popped (memory_of w1)) w1.left)))
-            (sym (top_slots w1.cells))
-            (returns_to (record { value = v; from = from }) may
-            (subst (λ m. Runs c given (between end) (plain v ∷ rest) frames w2 (go v m w1.left)) (sym (popped_memory w1))
-            (next v w2 (omega (arith, is)) in_ (held_older c f fns w1.cells held1))))) in
+      λ v from w1 t pc over_ line goes at_ may in_ le1 held1.
+      let w2 : World = record (entered c t w1) { cells = older w1.cells } in
+      enter {stage = leaving line over_} t goes at_
+      (subst (λ s. Runs c given (leaving line over_) (val v from ∷ []) frames' (entered c t w1) (none_awaits line s (go v (popped (memory_of w1)) w1.left)))
+      (sym (top_slots w1.cells))
+      (returns_to (record { value = v; from = from }) may
+      (subst (λ m. Runs c given (between end) (plain v ∷ rest) frames w2 (go v m w1.left)) (sym (popped_memory w1))
+      (next v w2 (omega (arith, is)) in_ (held_older c f fns w1.cells held1))))) in
       subst (λ o. Runs c given (between it.row.start) [] frames' w'
       (entering_ n o (first_point c.here.program.functions f) vs go (memory_of w) left)) (sym call.1.1)
       (subst (λ m. Runs c given (between it.row.start) [] frames' w' (body_of c.here (calls_by c.here n) (first_point c.here.program.functions f) g back m left))
@@ -223,10 +223,10 @@ module _ (c : Setup) (given : ℕ → Value) (functions : (f : ℕ) (g : Functio
       let room : limit + length {A = Holder} [] ≡ limit = omega arith in
       let back : Value → Rest = λ v m left. Stops (Finishes Ended) in
       let back_run : Back c given limit (calls_run limit) f [] [] room [] left back =
-            λ v from w1 t pc over_ line goes at_ may in_ le1 held1.
-            enter {stage = leaving line over_} t goes at_
-            (subst (λ s. Runs c given (leaving line over_) (val v from ∷ []) [] (entered c t w1) (none_awaits line s (Stops (Finishes Ended))))
-            (sym (top_slots w1.cells)) (over (record { value = v; from = from }) may)) in
+      λ v from w1 t pc over_ line goes at_ may in_ le1 held1.
+      enter {stage = leaving line over_} t goes at_
+      (subst (λ s. Runs c given (leaving line over_) (val v from ∷ []) [] (entered c t w1) (none_awaits line s (Stops (Finishes Ended))))
+      (sym (top_slots w1.cells)) (over (record { value = v; from = from }) may)) in
       let F : List Slot → Memory = λ s. record { frames = s ∷ []; getting = [] } in
       let P : ℕ → Memory → PointedDoing = λ n m. body_of c.here (calls_by c.here limit) (first_point c.here.program.functions n) g back m left in
       let count_ : length {A = Value} [] + length g.others ≡ c.locals f = sym (it.locals ∙ it.room ∙ ap (λ ps. length ps + length g.others) none_) in

@@ -37,7 +37,9 @@ pub shows_event : (e : Shown) (told : Story) (played : ℕ → Story) → Shows 
 shows_event e told played h = record {
   whole = λ n. let w = h.whole n in (w.0, λ many le. ap (after_event e) (w.1 many le));
   begins = λ many n. let b = h.begins many n in record {
-    events = front_cons e (played many).events told.events b.events; text = b.text; over = λ ended. ap (after_event e) (b.over ended);
+    events = front_cons e (played many).events told.events b.events;
+    text = b.text;
+    over = λ ended. ap (after_event e) (b.over ended);
   };
   agree = λ many. agree_cons e (played many).events told.events (h.agree many);
   texts_agree = h.texts_agree;
@@ -47,7 +49,9 @@ pub shows_text : (t : List ℕ) (told : Story) (played : ℕ → Story) → Show
 shows_text t told played h = record {
   whole = λ n. let w = h.whole n in (w.0, λ many le. ap (after_text t) (w.1 many le));
   begins = λ many n. let b = h.begins many n in record {
-    events = b.events; text = front_on t (played many).text told.text b.text; over = λ ended. ap (after_text t) (b.over ended);
+    events = b.events;
+    text = front_on t (played many).text told.text b.text;
+    over = λ ended. ap (after_text t) (b.over ended);
   };
   agree = h.agree;
   texts_agree = λ many. agree_on t (played many).text told.text (h.texts_agree many);

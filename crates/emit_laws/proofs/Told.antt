@@ -199,8 +199,8 @@ module _ (c : Setup) (plan : Plan) (pieces : List Piece) (stands : (pc : ℕ) �
       → By_ h (moves.Waits counter s) d
   waits_ h counter left s d z fit next b =
       let K : ℕ → List Value → Story = λ many vs.
-            if fits_all c.here.layout (reads_on counter s.flying) vs
-            then plays oracle empty (waited counter (progress b h)) (from_state many h.at (landed counter vs s)) else nothing_more in
+      if fits_all c.here.layout (reads_on counter s.flying) vs
+      then plays oracle empty (waited counter (progress b h)) (from_state many h.at (landed counter vs s)) else nothing_more in
       shows_as _ _ _ _ refl
       (λ many. ap (λ e. if e then after_event (requests (request.Sync 0)) (K many (map (λ (f : Flying). oracle.value f.number) (filter (λ (f : Flying). is_on counter f.track) (map fly h.flying)))) else K many (map (λ (f : Flying). oracle.value f.number) (filter (λ (f : Flying). is_on counter f.track) (map fly h.flying)))) (not_on_zero counter z)
       ∙ ap (K many) (on_flying oracle.value counter h.flying)
@@ -216,8 +216,8 @@ module _ (c : Setup) (plan : Plan) (pieces : List Piece) (stands : (pc : ℕ) �
       let T : List ℕ → Told = λ gets. record { accesses = h.accesses; barriers = b; gets = gets } in
       let vs = landing oracle.value 0 h.flying in
       let K : ℕ → List Value → Story = λ many vs.
-            if fits_all c.here.layout (reads_on 0 s.flying) vs
-            then plays oracle empty (waited 0 (progress b h)) (from_state many h.at (landed 0 vs s)) else nothing_more in
+      if fits_all c.here.layout (reads_on 0 s.flying) vs
+      then plays oracle empty (waited 0 (progress b h)) (from_state many h.at (landed 0 vs s)) else nothing_more in
       let S : List Value → Story = λ vs. if fits_all c.here.layout places vs then tells oracle empty (T []) (go (source.Landed vs)) else nothing_more in
       shows_event (requests (request.Sync 0)) _ _
       (shows_as _ _ _ _ (ap S (values_of oracle.value (on_counter 0 h.flying)))

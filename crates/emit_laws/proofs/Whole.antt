@@ -48,7 +48,12 @@ module _ (c : Setup) (timely : Timely c) (functions : (f : ℕ) (g : Function) �
 
   fits_first : (value : ℕ → Value) (budget : ℕ) → Fit c value [] [] (start c value functions (length g.others) budget)
   fits_first value budget = record {
-    on_stack = tt; in_cells = (called_given value c 0 [] (length g.others), tt); in_frames = tt; below = tt; fit = tt; gets = refl;
+    on_stack = tt;
+    in_cells = (called_given value c 0 [] (length g.others), tt);
+    in_frames = tt;
+    below = tt;
+    fit = tt;
+    gets = refl;
     spots = no_gets c (length g.others);
   }
 
