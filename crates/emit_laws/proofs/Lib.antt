@@ -22,3 +22,4 @@ pub mod PlacedStatements
 pub mod Openings
 pub mod Setups
 pub mod Standings
+pub mod FunctionCodes
