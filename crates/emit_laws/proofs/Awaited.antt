@@ -1,7 +1,7 @@
 -- Each get that has not landed is awaited by its local, and nothing else awaits; so a sync fills what awaits.
-use Rattle.std.proofs.Common.{◌≡◌, ◌⊎◌, inl, inr, ⊎_elim, ℕ, zero, suc, ◌+◌, ◌<◌, ◌≤◌, ◌==◌, List, [], ◌∷◌, ◌++◌, length, map, Option, Some, None, Bool, true, false, slice_get, slice_set, if◌then◌else◌, refl, sym, ap, ◌∙◌, subst, arith}
+use Rattle.std.proofs.Common.{◌≡◌, ◌⊎◌, inl, inr, ⊎_elim, ℕ, zero, suc, ◌+◌, ◌<◌, ◌≤◌, ◌==◌, List, [], ◌∷◌, ◌++◌, length, map, Option, Some, None, slice_get, slice_set, if◌then◌else◌, refl, sym, ap, ◌∙◌, subst, arith}
 use Rattle.std.proofs.lemmas.Bool.Decides.{Decides-eqb}
-use Rattle.std.proofs.lemmas.List.{length-set, length-map, length-append}
+use Rattle.std.proofs.lemmas.List.{length-map}
 use Rattle.std.proofs.lemmas.Option.{slice_get_within}
 use Rattle.sc_base.specs.declared.value.Place.{Place}
 use Rattle.sc_base.specs.declared.value.Value.{Value}
@@ -10,7 +10,7 @@ use Rattle.sc_meaning.specs.Memory.{Spot}
 use Rattle.emit_laws.proofs.Parts.{Setup}
 use Rattle.emit_laws.proofs.Ghosts.{Token, Thing, val, awaited, plain, newest, older, put_top, put_at, put_all, called_with}
 use Rattle.emit_laws.proofs.Cells.{set_cases}
-use Rattle.emit_laws.proofs.Masks.{by_bool, no_way}
+use Rattle.emit_laws.proofs.Masks.{by_bool}
 
 -- ---- where gets are awaited
 

@@ -1,5 +1,5 @@
 -- What the table says of a step by what it makes or does.
-use Rattle.std.proofs.Common.{◌≡◌, inl, ℕ, List, [], ◌∷◌, Option, Some, None, Bool, true, false, ◌&&◌, slice_get, if◌then◌else◌, refl, sym, ap, subst}
+use Rattle.std.proofs.Common.{◌≡◌, inl, ℕ, List, [], ◌∷◌, Option, Some, None, Bool, true, false, ◌&&◌, slice_get, if◌then◌else◌, refl}
 use Rattle.std.specs.Prelude.{ℤ, pos, negsuc, zero, suc, ◌==◌, ◌%◌, ◌/◌, Result, Ok, Err}
 use Rattle.std.specs.Option.{option_map_or}
 use Rattle.sc_base.specs.declared.operator.Unary.TheVariants.{Minus, Not}
@@ -14,12 +14,12 @@ use Rattle.sc_tree.specs.Names.{Text}
 use Rattle.sc_isa.specs.Elements.{Outcome, gives, fails, wrong, ints}
 use Rattle.sc_isa.specs.Pure.{is_pointer, elem, glob, to_global, to_proc, to_local, bin, un, step, same, truth, computed}
 use Rattle.sc_isa.specs.Steps as steps
-use Rattle.sc_isa.specs.Deeds.{Made, makes, faults, stuck, uses, sets, reads, writes, calls, Done, lets_go, ends, sticks, clears, prints, fills, gets, misses, puts, sends, copies, waits, meets, Spotted, found, missing, nowhere, spotted, made_by, reading, writing, filling, getting, putting, printing, spanned, copied_from, copied, copying, done}
+use Rattle.sc_isa.specs.Deeds.{Made, makes, faults, stuck, uses, sets, reads, writes, calls, Done, ends, sticks, clears, fills, gets, misses, puts, sends, copies, waits, Spotted, found, missing, nowhere, spotted, made_by, reading, writing, filling, getting, putting, printing, spanned, copied_from, copied, copying, done}
 use Rattle.sc_core.specs.declared.operation.Operation.{Operation}
 use Rattle.sc_core.specs.declared.operation.Operation.TheVariants as does
 use Rattle.sc_core.specs.declared.operation.Action.{Action}
 use Rattle.sc_core.specs.declared.operation.Action.TheVariants as acts
-use Rattle.sc_core.specs.Table.{then_made, made_of, done_of, with_text}
+use Rattle.sc_core.specs.Table.{then_made, made_of, done_of}
 use Rattle.flow_form.specs.Steps.{callee_of}
 use Rattle.emit_laws.proofs.Parts.{In, named, touched}
 

@@ -1,21 +1,19 @@
 -- What holds of a world with ghosts so that the machine's state shows it, and what each step keeps of it.
-use Rattle.std.proofs.Common.{◌≡◌, inl, inr, ⊎_elim, ℕ, zero, suc, ◌+◌, ◌<◌, ◌==◌, List, [], ◌∷◌, ◌++◌, length, map, reverse, Option, Some, None, Bool, true, false, ◌&&◌, ◌||◌, slice_set, if◌then◌else◌, refl, sym, ap, ◌∙◌, subst, arith}
+use Rattle.std.proofs.Common.{◌≡◌, ⊎_elim, ℕ, zero, suc, ◌==◌, List, [], ◌∷◌, ◌++◌, map, reverse, Option, Some, None, Bool, true, false, ◌&&◌, ◌||◌, slice_set, if◌then◌else◌, refl, sym, ap, ◌∙◌, subst, arith}
 use mathlib.Core.List.{reverse_aux}
-use Rattle.std.specs.Prelude.{replicate}
 use Rattle.std.proofs.lemmas.Bool.{and_from}
 use Rattle.std.proofs.lemmas.Bool.Decides.{Decides-eqb}
-use Rattle.sc_base.specs.declared.value.Place.{Place}
 use Rattle.sc_base.specs.declared.value.Value.{Value}
 use Rattle.sc_layout.specs.Layout.{Arrangement}
 use Rattle.sc_isa.specs.declared.operand.Operand.{Operand}
-use Rattle.sc_isa.specs.declared.operand.Operand.TheVariants.{Here, Landing}
+use Rattle.sc_isa.specs.declared.operand.Operand.TheVariants.{Here}
 use Rattle.sc_isa.specs.declared.operand.Slot.{Slot}
 use Rattle.sc_isa.specs.declared.operand.Slot.TheVariants.{Holds, Pending}
 use Rattle.sc_isa.specs.Fitting.{fits, fits_all}
-use Rattle.sc_isa.specs.State.{Frame, Flight, State, reads_on, without_reads_on, value_at, land, land_slot, land_frame, landed}
+use Rattle.sc_isa.specs.State.{Frame, Flight, State, reads_on, value_at, land, land_slot, land_frame, landed}
 use Rattle.emit_laws.proofs.Parts.{In, Setup}
-use Rattle.emit_laws.proofs.Ghosts.{Token, Thing, val, awaited, plain, unset, Holder, World, newest, older, put_top, without, without_all, on_counter, Worth, thing, things, worths, onto, MayFrom, AllMay, Ready, called_with}
-use Rattle.emit_laws.proofs.Masks.{by_bool, no_way, flight_of, flights, is_token, flies, index, reads_flights, without_flights, landing, AllBelow, below_without, mask, mask_by, mask_from, mask_slot, mask_all, mask_slots, mask_callers, state_of, GivenBy, AllGiven, CellsGiven, FramesGiven, land_all, land_from, old_all, old_slots}
+use Rattle.emit_laws.proofs.Ghosts.{Token, Thing, val, awaited, Holder, World, newest, older, put_top, without, without_all, on_counter, Worth, things, worths, onto, MayFrom, AllMay, Ready, called_with}
+use Rattle.emit_laws.proofs.Masks.{by_bool, no_way, flights, flies, index, reads_flights, without_flights, landing, mask_by, mask_from, mask_all, mask_slots, mask_callers, state_of, GivenBy, AllGiven, CellsGiven, FramesGiven, land_all, land_from, old_all, old_slots}
 use Rattle.emit_laws.proofs.Standing.{Timely}
 
 -- ---- operands from the top

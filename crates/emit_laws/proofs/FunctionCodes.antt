@@ -1,5 +1,5 @@
 -- Each function's code lies where its row says.
-use Rattle.std.proofs.Common.{◌≡◌, ℕ, zero, suc, ◌+◌, List, [], ◌∷◌, ◌++◌, length, Option, Some, None, false, slice_get, refl, sym, ap, ◌∙◌, subst, arith}
+use Rattle.std.proofs.Common.{◌≡◌, ℕ, zero, suc, ◌+◌, List, [], ◌∷◌, length, Some, false, slice_get, refl, sym, ap, subst, arith}
 use Rattle.sc_isa.specs.declared.code.FnRow.{FnRow}
 use Rattle.sc_isa.specs.declared.op.Op.TheVariants as op
 use Rattle.sc_core.specs.Core.{Function}
@@ -13,7 +13,7 @@ use Rattle.node_emit.specs.Widths.{width_in, width_of}
 use Rattle.node_emit.specs.Sources.{locals_of, rows_from}
 use Rattle.node_emit.specs.Law.{is_empty}
 use Rattle.emit_laws.proofs.Parts.{Setup, PointAt, OutsideAt, Lie}
-use Rattle.emit_laws.proofs.Items.{Item, glue, item_of, total, total_append, items_in, function_items, functions_items}
+use Rattle.emit_laws.proofs.Items.{glue, item_of, total, items_in, function_items, functions_items}
 use Rattle.emit_laws.proofs.Placed.{sum2, item_total, HasItems, front, back, run_of, outside_lies}
 use Rattle.emit_laws.proofs.PlacedStatements.{total_in, FormedIn, lie}
 
@@ -50,7 +50,12 @@ module _ (c : Setup) (plan : Plan) (waits : (t : ℕ) → c.waits t ≡ waits_at
       let b = glue (constant_op (zero_of g.result)) ∷ item_of t g.line (op.Ret ∷ []) in
       let behind = back c plan waits one_way pc end a b (ap (λ n. pc + n) (sym (total_in plan g.body (k + 1) s 0 0 pc))) h in
       record {
-        params = refl; room = refl; sites = s; end = end; last = end + 1; over = end + 1 + run_width plan t 1;
+        params = refl;
+        room = refl;
+        sites = s;
+        end = end;
+        last = end + 1;
+        over = end + 1 + run_width plan t 1;
         lies = lie c plan waits one_way g.body (k + 1) s 0 0 pc end formed.0 (front c plan waits one_way pc a b h) refl;
         zero_at = outside_lies c plan waits one_way end (end + 1) (constant_op (zero_of g.result)) behind.0 refl;
         return_at = run_of c plan waits one_way t g.line (end + 1) (end + 1 + run_width plan t 1) (op.Ret ∷ []) tt formed.1 behind.1 refl;
@@ -60,7 +65,7 @@ module _ (c : Setup) (plan : Plan) (waits : (t : ℕ) → c.waits t ≡ waits_at
   function_total g k s pc =
       let t = k + 1 + size_of g.body in
       let h : total plan (function_items plan g k s pc) ≡ width_in plan g.body (k + 1) + (1 + run_width plan t 1) =
-            sum2 plan _ _ _ _ (total_in plan g.body (k + 1) s 0 0 pc) (ap (λ n. 1 + n) (item_total plan t g.line (op.Ret ∷ []) tt)) in
+      sum2 plan _ _ _ _ (total_in plan g.body (k + 1) s 0 0 pc) (ap (λ n. 1 + n) (item_total plan t g.line (op.Ret ∷ []) tt)) in
       omega (arith, h)
 
   -- the function with this number

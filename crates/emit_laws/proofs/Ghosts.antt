@@ -1,9 +1,8 @@
 -- Runs of the code with ghosts: each operand has its value, also while it lands, and knows the read that it came from.
-use Rattle.std.proofs.Common.{◌≡◌, ℕ, zero, suc, ◌+◌, ◌-◌, ◌<◌, ◌≤◌, ◌==◌, List, [], ◌∷◌, ◌++◌, length, map, Option, Some, None, Bool, true, false, slice_get, slice_index_or, slice_set, if◌then◌else◌}
+use Rattle.std.proofs.Common.{◌≡◌, ℕ, suc, ◌+◌, ◌-◌, ◌<◌, ◌≤◌, ◌==◌, List, [], ◌∷◌, ◌++◌, length, map, Option, Some, None, Bool, true, slice_get, slice_set, if◌then◌else◌}
 use Rattle.std.specs.Prelude.{pos, replicate}
 use Rattle.resumption.specs.Resumption.{Asks, Makes, Says, Stops}
 use Rattle.sc_base.specs.declared.limits.TheConstants.{LIMITS}
-use Rattle.sc_base.specs.declared.value.CopyMode.TheVariants.{Blocking}
 use Rattle.sc_base.specs.declared.value.End.TheVariants.{Ended, Fault}
 use Rattle.sc_base.specs.declared.value.FaultKind.{FaultKind}
 use Rattle.sc_base.specs.declared.value.FaultKind.TheVariants.{Depth}
@@ -11,7 +10,6 @@ use Rattle.sc_base.specs.declared.value.Place.{Place}
 use Rattle.sc_base.specs.declared.value.Value.{Value}
 use Rattle.sc_base.specs.declared.value.Value.TheVariants.{Int}
 use Rattle.sc_isa.specs.declared.code.FnRow.{FnRow}
-use Rattle.sc_isa.specs.declared.op.Op.{Op}
 use Rattle.sc_isa.specs.declared.op.Op.TheVariants as op
 use Rattle.sc_isa.specs.Fitting.{fits, fits_all}
 use Rattle.sc_isa.specs.Deeds.{makes, faults, stuck, uses, sets, reads, writes, calls, lets_go, ends, sticks, clears, prints, fills, gets, misses, puts, sends, copies, waits, meets}
@@ -20,8 +18,8 @@ use Rattle.sc_core.specs.declared.operation.Operation.{Operation}
 use Rattle.sc_core.specs.declared.operation.Action.{Action}
 use Rattle.sc_core.specs.Table.{made_of, done_of}
 use Rattle.sc_meaning.specs.declared.request.Request.TheVariants as request
-use Rattle.sc_meaning.specs.Asking.{PointedDoing, Requested, Finishes, Breaks, Answer, Shown, Landed, Passed, fits_read, fits_sync, fits_barrier}
-use Rattle.sc_meaning.specs.Memory.{Slot, has, awaits, Spot, Memory, top, places}
+use Rattle.sc_meaning.specs.Asking.{PointedDoing, Requested, Finishes, Breaks, Answer, Shown, Landed, fits_read, fits_sync, fits_barrier}
+use Rattle.sc_meaning.specs.Memory.{Slot, has, awaits, Spot, Memory, places}
 use Rattle.sc_meaning.specs.Steps.{used, none_awaits, counted, decided, mode_of, barrier_request, unless_broken}
 use Rattle.sc_meaning.specs.Meaning.{pass, constant_of}
 use Rattle.meaning_laws.specs.StepTable.{arguments_of, arguments_of_action}

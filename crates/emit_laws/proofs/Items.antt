@@ -1,8 +1,8 @@
 -- Emitted code as items: instructions outside of the runs, and runs of points. From the items follow the instructions, the
 -- pieces, and where each instruction stands.
-use Rattle.std.proofs.Common.{◌≡◌, ℕ, zero, suc, ◌+◌, List, [], ◌∷◌, ◌++◌, length, map, Option, Some, None, Bool, true, false, slice_get, refl, sym, ap, ◌∙◌, subst, arith}
+use Rattle.std.proofs.Common.{◌≡◌, ℕ, suc, ◌+◌, List, [], ◌∷◌, ◌++◌, length, map, Option, Some, None, Bool, true, false, refl, sym, ap, ◌∙◌, arith}
 use Rattle.std.specs.Prelude.{pos}
-use Rattle.std.proofs.lemmas.List.{length-append, length-map, map-append}
+use Rattle.std.proofs.lemmas.List.{map-append}
 use Rattle.sc_isa.specs.declared.op.Op.{Op}
 use Rattle.sc_isa.specs.declared.op.Op.TheVariants as op
 use Rattle.sc_isa.specs.declared.op.Instr.{Instr}
@@ -18,8 +18,8 @@ use Rattle.flow_form.specs.Accesses.{accesses, accesses_all, accesses_by, access
 use Rattle.site_graph.specs.declared.plan.Plan.{Plan}
 use Rattle.site_graph.specs.Plans.{waits_at}
 use Rattle.node_emit.specs.Runs.{goes_one_way, instr, outside, run, run_width, constant_op, test_ops, test_width}
-use Rattle.node_emit.specs.Widths.{ops_width, action_width, back_width, width, widths, width_in, width_of}
-use Rattle.node_emit.specs.Expressions.{step_code, back_code, code, code_all}
+use Rattle.node_emit.specs.Widths.{width, width_in, width_of}
+use Rattle.node_emit.specs.Expressions.{back_code, code, code_all}
 use Rattle.node_emit.specs.Statements.{code_in}
 use Rattle.node_emit.specs.Sources.{function_code, functions_code}
 use Rattle.node_emit.specs.Spelled.{Piece, Outside, Opens, Within, spelled}

@@ -1,23 +1,21 @@
 -- What fits a world with ghosts, and what each step makes of it and of the machine's state.
-use Rattle.std.proofs.Common.{◌≡◌, inl, inr, ℕ, zero, suc, ◌+◌, ◌-◌, ◌<◌, ◌==◌, List, [], ◌∷◌, ◌++◌, length, map, Option, Some, None, Bool, true, false, slice_get, slice_set, if◌then◌else◌, refl, sym, ap, ◌∙◌, subst, arith}
+use Rattle.std.proofs.Common.{◌≡◌, ℕ, zero, suc, ◌+◌, ◌-◌, ◌<◌, ◌==◌, List, [], ◌∷◌, ◌++◌, length, map, Option, Some, None, Bool, true, false, slice_get, slice_set, if◌then◌else◌, refl, sym, ap, ◌∙◌, subst, arith}
 use Rattle.std.specs.Prelude.{replicate}
-use Rattle.std.proofs.lemmas.List.{map-set, map-append, length-map, length-append}
+use Rattle.std.proofs.lemmas.List.{map-set, map-append, length-map}
 use Rattle.std.proofs.lemmas.Bool.Decides.{Decides-eqb}
 use Rattle.sc_base.specs.declared.value.Place.{Place}
 use Rattle.sc_base.specs.declared.value.Value.{Value}
 use Rattle.sc_isa.specs.declared.code.FnRow.{FnRow}
-use Rattle.sc_isa.specs.declared.operand.Operand.{Operand}
 use Rattle.sc_isa.specs.declared.operand.Operand.TheVariants.{Here, Landing}
-use Rattle.sc_isa.specs.declared.operand.Slot.{Slot}
 use Rattle.sc_isa.specs.declared.operand.Slot.TheVariants.{Holds, Pending}
-use Rattle.sc_isa.specs.Fitting.{fits, fits_all}
-use Rattle.sc_isa.specs.State.{Frame, Flight, State, blank, entered_with, pushed, with_local, with_left, flown as machine_flown, reads_on, next_number, value_at, land, land_slot, land_frame, landed}
+use Rattle.sc_isa.specs.Fitting.{fits}
+use Rattle.sc_isa.specs.State.{blank, with_local, with_left, flown as machine_flown, reads_on, next_number, value_at, land, land_slot, land_frame, landed}
 use Rattle.sc_isa.specs.Moves.{reading_in, call_of}
 use Rattle.sc_meaning.specs.Memory.{Spot, places}
 use Rattle.emit_laws.proofs.Parts.{Setup}
-use Rattle.emit_laws.proofs.Ghosts.{Token, Thing, val, awaited, plain, unset, Holder, World, memory_of, newest, older, put_top, put_all, without, on_counter, Worth, thing, things, onto, Ready, token, flown, one_more, into, with_get, called_with, fetched, got, after_sync}
-use Rattle.emit_laws.proofs.Masks.{by_bool, no_way, flight_of, flights, reads_flights, without_flights, landing, AllBelow, below_more, below_new, below_without, on_append, mask, mask_from, mask_slot, mask_all, mask_slots, mask_callers, state_of, GivenBy, AllGiven, CellsGiven, FramesGiven, land_from, land_all, old_all, old_slots, new_mask}
-use Rattle.emit_laws.proofs.Fitting.{all_more, cells_more, frames_more, all_set, cells_top, cells_older, cells_newest, called_given, same_frame, state_with, same_state, old_callers, AllFit, fit_add, fit_without, given_onto}
+use Rattle.emit_laws.proofs.Ghosts.{Token, Thing, val, awaited, plain, Holder, World, memory_of, newest, older, put_top, without, on_counter, Worth, things, onto, Ready, token, flown, one_more, into, with_get, called_with, fetched, got, after_sync}
+use Rattle.emit_laws.proofs.Masks.{by_bool, flight_of, flights, reads_flights, without_flights, landing, AllBelow, below_more, below_new, below_without, on_append, mask, mask_from, mask_slot, mask_all, mask_slots, mask_callers, state_of, GivenBy, AllGiven, CellsGiven, FramesGiven, land_from, land_all, old_all, old_slots, new_mask}
+use Rattle.emit_laws.proofs.Fitting.{all_more, cells_more, frames_more, cells_top, cells_older, cells_newest, called_given, same_frame, same_state, old_callers, AllFit, fit_add, fit_without}
 use Rattle.emit_laws.proofs.Awaited.{KnownAt, Known, Spots, fill_all, sync_fills, fill_all_val, fill_all_at, known_within, spots_called, spots_older, spots_put, spots_get, spots_synced}
 
 pub append_nil : {A : Type 0} (xs : List A) → xs ++ [] ≡ xs

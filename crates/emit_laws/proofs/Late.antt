@@ -1,25 +1,20 @@
 -- The machine whose operands land late does what a run with ghosts does.
-use Rattle.std.proofs.Common.{◌≡◌, ◌⊎◌, inl, inr, ⊎_elim, ℕ, zero, suc, ◌+◌, ◌-◌, ◌<◌, ◌≤◌, ◌==◌, List, [], ◌∷◌, ◌++◌, length, map, Option, Some, None, Bool, true, false, slice_get, if◌then◌else◌, refl, sym, ap, ◌∙◌, subst, arith}
-use Rattle.std.specs.Prelude.{nat_lt, nat_le}
+use Rattle.std.proofs.Common.{◌≡◌, ◌⊎◌, inl, inr, ℕ, zero, suc, ◌+◌, ◌<◌, ◌≤◌, List, [], ◌∷◌, length, map, Option, Some, None, Bool, true, false, slice_get, if◌then◌else◌, refl, sym, ap, ◌∙◌, subst, arith}
+use Rattle.std.specs.Prelude.{nat_lt}
 use Rattle.std.proofs.lemmas.Bool.Decides.{Decides-ltb}
-use Rattle.resumption.specs.Resumption.{Asks, Makes, Says, Stops}
+use Rattle.resumption.specs.Resumption.{Makes, Stops}
 use Rattle.sc_base.specs.declared.limits.TheConstants.{LIMITS}
-use Rattle.sc_base.specs.declared.value.End.{End}
 use Rattle.sc_base.specs.declared.value.End.TheVariants.{Ended, Fault, Cut}
 use Rattle.sc_base.specs.declared.value.FaultKind.TheVariants.{Depth, PendingUse}
 use Rattle.sc_base.specs.declared.value.Place.{Place}
 use Rattle.sc_base.specs.declared.value.Value.{Value}
-use Rattle.sc_isa.specs.declared.code.FnRow.{FnRow}
 use Rattle.sc_isa.specs.declared.op.Op.{Op}
 use Rattle.sc_isa.specs.declared.op.Op.TheVariants as op
-use Rattle.sc_isa.specs.declared.operand.Slot.{Slot}
-use Rattle.sc_isa.specs.declared.operand.Slot.TheVariants.{Holds, Pending}
 use Rattle.sc_isa.specs.Deeds.{Made, makes, faults, stuck, uses, sets, reads, writes, calls, Done, lets_go, ends, sticks, clears, prints, fills, gets, misses, puts, sends, copies, waits, meets}
 use Rattle.sc_isa.specs.declared.access.Access.TheVariants as access
 use Rattle.sc_isa.specs.declared.operand.Operand.TheVariants.{Here}
-use Rattle.sc_isa.specs.State.{Frame, State, at_instr, pushed, landed, with_left}
+use Rattle.sc_isa.specs.State.{State, at_instr, pushed}
 use Rattle.sc_isa.specs.Moves.{After, GoesOn, Ends, Sticks, Move, Comes, Waits, none_pending, counted as machine_counted, one_deeper, called, gain_done, act_done}
-use Rattle.sc_isa.specs.Table.{at_counter, returned}
 use Rattle.sc_core.specs.declared.operation.Constant.{Constant}
 use Rattle.sc_core.specs.declared.operation.Constant.TheVariants as constants
 use Rattle.sc_core.specs.declared.operation.Operation.{Operation}
@@ -28,22 +23,22 @@ use Rattle.sc_core.specs.declared.operation.Action.{Action}
 use Rattle.sc_core.specs.declared.operation.Action.TheVariants as acts
 use Rattle.sc_core.specs.Table.{made_of, done_of, ops_of, ops_of_action}
 use Rattle.sc_meaning.specs.declared.request.Request.TheVariants as request
-use Rattle.sc_meaning.specs.Asking.{PointedDoing, Requested, Finishes, Breaks, Answer, Shown, Landed}
-use Rattle.sc_meaning.specs.Memory.{Slot as SourceSlot, places}
+use Rattle.sc_meaning.specs.Asking.{PointedDoing, Requested, Finishes, Shown, Landed}
+use Rattle.sc_meaning.specs.Memory.{places}
 use Rattle.sc_meaning.specs.Steps.{used, none_awaits, counted, mode_of}
 use Rattle.sc_meaning.specs.Meaning.{pass, constant_of}
 use Rattle.meaning_laws.specs.StepTable.{arguments_of, arguments_of_action, track_of, action_track, IsAtSite, ActsAtSite, HasRow, HasSite}
 use Rattle.meaning_laws.proofs.Decided.{le_decides}
-use Rattle.node_emit.specs.Runs.{instr, outside, constant_op, test_ops}
+use Rattle.node_emit.specs.Runs.{outside, constant_op, test_ops}
 use Rattle.node_emit.specs.Law.{is_empty}
 use Rattle.node_emit.specs.Stands.{Stands}
 use Rattle.node_emit.specs.Pointed.{entered_at}
-use Rattle.emit_laws.proofs.Parts.{In, Setup, RunAt, PointAt, OutsideAt, JumpAt}
-use Rattle.emit_laws.proofs.Ghosts.{Thing, val, awaited, plain, slot_of, Token, Holder, World, memory_of, newest, older, Worth, thing, worths, things, onto, Stage, between, stepping, acting, testing, turning, leaving, limit, StageAt, entered, without, without_all, MayFrom, Ready, Local, flown, one_more, into, with_get, called_with, fetched, got, after_sync, Runs, push, dup, jump, skip, enter, step_makes, step_faults, step_breaks, step_uses, step_sets, step_reads, step_writes, step_calls, too_deep, act_lets_go, act_ends, act_breaks, act_clears, act_fills, act_gets, act_misses, act_puts, act_sends, act_copies, act_syncs, act_meets, act_prints, tests, turns, returns_to, over}
+use Rattle.emit_laws.proofs.Parts.{In, Setup, RunAt, PointAt}
+use Rattle.emit_laws.proofs.Ghosts.{Thing, val, awaited, plain, slot_of, Token, Holder, World, memory_of, newest, older, Worth, thing, worths, Stage, between, stepping, acting, testing, turning, leaving, limit, StageAt, entered, without, without_all, Ready, flown, one_more, with_get, got, after_sync, Runs, push, dup, jump, skip, enter, step_makes, step_faults, step_breaks, step_uses, step_sets, step_reads, step_writes, step_calls, too_deep, act_lets_go, act_ends, act_breaks, act_clears, act_fills, act_gets, act_misses, act_puts, act_sends, act_copies, act_syncs, act_meets, act_prints, tests, turns, returns_to, over}
 use Rattle.emit_laws.proofs.DeedsMade.{MadeBy, made_table, DoneBy, done_table}
-use Rattle.emit_laws.proofs.Masks.{by_bool, landing, mask_slot, mask_slots, mask_callers, state_of, AllGiven}
+use Rattle.emit_laws.proofs.Masks.{by_bool, mask_slots, state_of}
 use Rattle.emit_laws.proofs.Fitting.{Coming, Still, still, coming_on, Calm, each_add, each_map, each_only, wait_fits, landed_state}
-use Rattle.emit_laws.proofs.Keeping.{not_zero, Fit, rest_given, with_stack, fit_at, fit_waited, fit_into, fit_one_more, fit_flown, fit_fetched, fit_filled, fit_get, fit_synced, fit_called, fit_returned, length_callers, read_state, into_state, fill_state, get_state, sync_state, sync_places, call_state}
+use Rattle.emit_laws.proofs.Keeping.{not_zero, Fit, rest_given, with_stack, fit_at, fit_waited, fit_into, fit_one_more, fit_fetched, fit_filled, fit_get, fit_synced, fit_called, fit_returned, length_callers, read_state, into_state, fill_state, get_state, sync_state, sync_places, call_state}
 use Rattle.emit_laws.proofs.Standing.{Now, IsWrite, write, put, send, copy, Motive, Timely}
 use Rattle.emit_laws.proofs.Moved.{step_, does_, by_move, fetched_op, begins_none, step_by, act_by, local_by, local_after, test_by, ret_top}
 

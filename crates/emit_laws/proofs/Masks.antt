@@ -1,20 +1,16 @@
 -- Reads that have not landed, and operands as the machine has them: it does not see a value that has not landed.
-use Rattle.std.proofs.Common.{◌≡◌, ◌⊎◌, inl, inr, ℕ, zero, suc, ◌+◌, ◌<◌, ◌==◌, List, [], ◌∷◌, ◌++◌, length, map, reverse, Option, Some, None, Bool, true, false, ◌&&◌, ◌||◌, slice_get, slice_index_or, if◌then◌else◌, refl, sym, ap, ◌∙◌, subst, arith}
-use Rattle.std.specs.Prelude.{pos, replicate}
-use Rattle.std.proofs.lemmas.List.{map-append, length-map, length-append}
+use Rattle.std.proofs.Common.{◌≡◌, ℕ, suc, ◌<◌, ◌==◌, List, [], ◌∷◌, ◌++◌, length, map, Option, Some, None, Bool, true, false, ◌&&◌, ◌||◌, if◌then◌else◌, refl, sym, ap, ◌∙◌, subst, arith}
+use Rattle.std.specs.Prelude.{pos}
 use Rattle.std.proofs.lemmas.Bool.{and_parts, and_from}
 use Rattle.std.proofs.lemmas.Bool.Decides.{Decides-eqb}
-use Rattle.sc_base.specs.declared.value.Place.{Place}
 use Rattle.sc_base.specs.declared.value.Value.{Value}
 use Rattle.sc_base.specs.declared.value.Value.TheVariants.{Int}
-use Rattle.sc_layout.specs.Layout.{Arrangement}
 use Rattle.sc_isa.specs.declared.operand.Operand.{Operand}
 use Rattle.sc_isa.specs.declared.operand.Operand.TheVariants.{Here, Landing}
 use Rattle.sc_isa.specs.declared.operand.Slot.{Slot}
 use Rattle.sc_isa.specs.declared.operand.Slot.TheVariants.{Holds, Pending}
-use Rattle.sc_isa.specs.Fitting.{fits, fits_all}
-use Rattle.sc_isa.specs.State.{Frame, Flight, State, reads_on, without_reads_on, value_at, land, land_slot, land_frame, landed}
-use Rattle.emit_laws.proofs.Ghosts.{Token, Thing, val, awaited, plain, Holder, World, newest, older, without, on_counter}
+use Rattle.sc_isa.specs.State.{Frame, Flight, State, reads_on, without_reads_on, value_at, land}
+use Rattle.emit_laws.proofs.Ghosts.{Token, Thing, val, awaited, Holder, World, newest, older, without, on_counter}
 
 pub by_bool : {P : Type 0} (b : Bool) → (b ≡ true → P) → (b ≡ false → P) → P
 by_bool true f g = f refl

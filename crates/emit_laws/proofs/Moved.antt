@@ -1,7 +1,6 @@
 -- What the machine does at an instruction, in a state that shows a world with ghosts.
-use Rattle.std.proofs.Common.{◌≡◌, ℕ, zero, suc, ◌+◌, ◌<◌, ◌==◌, List, [], ◌∷◌, ◌++◌, length, map, reverse, Option, Some, None, Bool, true, false, slice_get, if◌then◌else◌, refl, sym, ap, ◌∙◌, subst, arith}
+use Rattle.std.proofs.Common.{◌≡◌, ℕ, zero, suc, ◌+◌, ◌==◌, List, [], ◌∷◌, length, Option, Some, None, Bool, true, false, slice_get, if◌then◌else◌, refl, sym, ap, ◌∙◌, subst, arith}
 use Rattle.std.specs.Prelude.{pos, negsuc}
-use Rattle.std.proofs.lemmas.Option.{slice_get-map}
 use Rattle.std.proofs.lemmas.Bool.Decides.{Decides-eqb}
 use Rattle.resumption.specs.Resumption.{Stops}
 use Rattle.sc_base.specs.declared.operator.Unary.TheVariants.{Minus, Not}
@@ -20,16 +19,16 @@ use Rattle.sc_isa.specs.declared.operand.Slot.TheVariants.{Holds, Pending}
 use Rattle.sc_isa.specs.Elements.{Outcome, gives, fails, wrong}
 use Rattle.sc_isa.specs.Pure.{Pure, arity, computed, un, step, same, truth, bit, is_true}
 use Rattle.sc_isa.specs.Steps.{set}
-use Rattle.sc_isa.specs.Deeds.{Made, made_by, Done}
+use Rattle.sc_isa.specs.Deeds.{Made, made_by}
 use Rattle.sc_isa.specs.State.{State, with_stack, pushed, at_instr, with_local}
-use Rattle.sc_isa.specs.Moves.{After, GoesOn, Ends, Sticks, Move, Comes, local_value, gain_done, act_done}
+use Rattle.sc_isa.specs.Moves.{After, GoesOn, Move, Comes, local_value, gain_done, act_done}
 use Rattle.sc_isa.specs.Table.{does_op, does_instr, step_of}
 use Rattle.sc_core.specs.declared.operation.Operation.{Operation}
 use Rattle.sc_core.specs.declared.operation.Operation.TheVariants as does
 use Rattle.sc_core.specs.declared.operation.Action.{Action}
 use Rattle.sc_core.specs.declared.operation.Action.TheVariants as acts
 use Rattle.sc_core.specs.Table.{then_made, made_of, done_of, ops_of, ops_of_action, write_op}
-use Rattle.sc_meaning.specs.Asking.{PointedDoing, Finishes, Breaks}
+use Rattle.sc_meaning.specs.Asking.{PointedDoing, Finishes}
 use Rattle.sc_meaning.specs.Steps.{used, decided_by, decided}
 use Rattle.meaning_laws.specs.StepTable.{does_ops, with_values, arguments_of, arguments_of_action, track_of, action_track, IsAtSite, ActsAtSite, HasRow}
 use Rattle.meaning_laws.proofs.Instructions.{alone, gains_are, pure_is, steps_are_their_instructions, actions_are_their_instructions}
@@ -37,9 +36,9 @@ use Rattle.node_emit.specs.Runs.{instr, test_ops}
 use Rattle.node_emit.specs.Stands.{Stands}
 use Rattle.node_emit.specs.Pointed.{entered_at}
 use Rattle.emit_laws.proofs.Parts.{Setup, RunAt}
-use Rattle.emit_laws.proofs.Ghosts.{Token, Thing, val, awaited, plain, slot_of, Holder, World, newest, Worth, thing, worths, things, onto, Ready, MayFrom, Local}
-use Rattle.emit_laws.proofs.Masks.{by_bool, no_way, mask, mask_from, mask_slot, mask_all, mask_slots, state_of, GivenBy, AllGiven, CellsGiven}
-use Rattle.emit_laws.proofs.Fitting.{Still, Calm, seen, taken_values, same_frame, same_state, cells_newest}
+use Rattle.emit_laws.proofs.Ghosts.{Token, Thing, val, awaited, plain, slot_of, Holder, World, newest, Worth, thing, worths, Ready, MayFrom, Local}
+use Rattle.emit_laws.proofs.Masks.{by_bool, mask_slot, mask_all, mask_slots, state_of, GivenBy, AllGiven, CellsGiven}
+use Rattle.emit_laws.proofs.Fitting.{Still, seen, taken_values, same_frame, same_state, cells_newest}
 use Rattle.emit_laws.proofs.Standing.{Now, Motive, Timely}
 
 one_on : (n : ℕ) → (n + 1 == 0) ≡ false

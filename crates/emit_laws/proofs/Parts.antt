@@ -5,7 +5,6 @@ use Rattle.sc_isa.specs.declared.code.Code.{Code}
 use Rattle.sc_isa.specs.declared.code.FnRow.{FnRow}
 use Rattle.sc_isa.specs.declared.op.Op.{Op}
 use Rattle.sc_isa.specs.declared.op.Op.TheVariants as op
-use Rattle.sc_isa.specs.declared.op.Instr.{Instr}
 use Rattle.sc_core.specs.declared.operation.Operation.{Operation}
 use Rattle.sc_core.specs.declared.operation.Operation.TheVariants as does
 use Rattle.sc_core.specs.declared.operation.Action.{Action}

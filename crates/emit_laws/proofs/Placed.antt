@@ -1,25 +1,23 @@
 -- The code lies as its runs want it: from the items that stand in the code.
-use Rattle.std.proofs.Common.{◌≡◌, ℕ, zero, suc, ◌+◌, ◌<◌, ◌≤◌, List, [], ◌∷◌, ◌++◌, length, map, Option, Some, None, Bool, true, false, slice_get, refl, sym, ap, ◌∙◌, subst, arith}
-use Rattle.std.specs.Prelude.{pos}
+use Rattle.std.proofs.Common.{◌≡◌, ℕ, suc, ◌+◌, List, [], ◌∷◌, ◌++◌, length, Option, Some, None, Bool, true, false, refl, sym, ap, ◌∙◌, subst, arith}
 use Rattle.sc_isa.specs.declared.op.Op.{Op}
 use Rattle.sc_isa.specs.declared.op.Op.TheVariants as op
-use Rattle.sc_isa.specs.declared.op.Instr.{Instr}
 use Rattle.sc_core.specs.declared.operation.Operation.{Operation}
 use Rattle.sc_core.specs.declared.operation.Operation.TheVariants as does
 use Rattle.sc_core.specs.declared.operation.Action.{Action}
 use Rattle.sc_core.specs.declared.operation.Action.TheVariants as acts
-use Rattle.sc_core.specs.Core.{Core, constant, step, choice, update, Arguments, none, argument, Does, nothing, break, continue, then_, act, choose, loop, return}
+use Rattle.sc_core.specs.Core.{Core, constant, step, choice, update, Arguments, none, argument}
 use Rattle.sc_core.specs.Table.{ops_of, ops_of_action, write_op}
-use Rattle.sc_meaning.specs.Points.{size, sizes, size_of}
+use Rattle.sc_meaning.specs.Points.{size, sizes}
 use Rattle.meaning_laws.specs.StepTable.{arguments_of, arguments_of_action, IsAtSite, ActsAtSite, HasRow}
-use Rattle.flow_form.specs.Accesses.{accesses, accesses_all, accesses_by, accesses_in}
+use Rattle.flow_form.specs.Accesses.{accesses, accesses_all, accesses_by}
 use Rattle.site_graph.specs.declared.plan.Plan.{Plan}
 use Rattle.site_graph.specs.Plans.{waits_at}
-use Rattle.node_emit.specs.Runs.{goes_one_way, instr, outside, run_width, constant_op, test_ops, test_width}
-use Rattle.node_emit.specs.Widths.{ops_width, action_width, back_width, width, widths, width_in}
+use Rattle.node_emit.specs.Runs.{goes_one_way, run_width, constant_op, test_ops, test_width}
+use Rattle.node_emit.specs.Widths.{ops_width, action_width, back_width, width, widths}
 use Rattle.node_emit.specs.Law.{is_empty}
-use Rattle.emit_laws.proofs.Parts.{Setup, RunAt, PointAt, OutsideAt, JumpAt, StepAt, ActAt, BackAt, Lies, LieAll, Lie, count_of}
-use Rattle.emit_laws.proofs.Items.{Item, glue, runs, item_of, item_width, total, total_append, step_items, back_items, items, items_all, items_in}
+use Rattle.emit_laws.proofs.Parts.{Setup, RunAt, PointAt, OutsideAt, JumpAt, StepAt, ActAt, BackAt, Lies, LieAll, count_of}
+use Rattle.emit_laws.proofs.Items.{Item, glue, runs, item_of, item_width, total, total_append, step_items, back_items, items, items_all}
 
 abbrev pub IsSome_ : List Op → Type 0
 IsSome_ [] = ⊥

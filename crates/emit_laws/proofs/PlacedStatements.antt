@@ -1,8 +1,6 @@
 -- The code of statements and of functions lies as their runs want it.
-use Rattle.std.proofs.Common.{◌≡◌, ℕ, zero, suc, ◌+◌, ◌<◌, ◌≤◌, List, [], ◌∷◌, ◌++◌, length, map, Option, Some, None, Bool, true, false, slice_get, refl, sym, ap, ◌∙◌, subst, arith}
-use Rattle.sc_isa.specs.declared.op.Op.{Op}
+use Rattle.std.proofs.Common.{◌≡◌, ℕ, suc, ◌+◌, List, [], ◌∷◌, ◌++◌, false, refl, sym, ap, ◌∙◌, subst, arith}
 use Rattle.sc_isa.specs.declared.op.Op.TheVariants as op
-use Rattle.sc_core.specs.declared.operation.Action.{Action}
 use Rattle.sc_core.specs.Core.{Core, Does, nothing, break, continue, then_, act, choose, loop, return}
 use Rattle.sc_core.specs.Table.{ops_of_action}
 use Rattle.sc_meaning.specs.Points.{size, sizes, size_of}
@@ -10,11 +8,11 @@ use Rattle.flow_form.specs.Accesses.{accesses, accesses_all, accesses_in}
 use Rattle.site_graph.specs.declared.plan.Plan.{Plan}
 use Rattle.site_graph.specs.Plans.{waits_at}
 use Rattle.node_emit.specs.Runs.{goes_one_way, run_width, test_ops, test_width}
-use Rattle.node_emit.specs.Widths.{action_width, width, widths, width_in}
+use Rattle.node_emit.specs.Widths.{width, widths, width_in}
 use Rattle.node_emit.specs.Law.{is_empty}
 use Rattle.emit_laws.proofs.Parts.{Setup, Lie, count_of}
 use Rattle.emit_laws.proofs.Items.{Item, glue, item_of, total, total_append, items, items_all, items_in}
-use Rattle.emit_laws.proofs.Placed.{IsSome_, actions_some, tests_some, sum2, item_total, total_is, totals_are, HasItems, front, back, ActFormed, Formed, FormedAll, run_of, act_lies, jump_lies, lies, all_lie}
+use Rattle.emit_laws.proofs.Placed.{actions_some, tests_some, sum2, item_total, total_is, totals_are, HasItems, front, back, ActFormed, Formed, FormedAll, run_of, act_lies, jump_lies, lies, all_lie}
 
 module _ (plan : Plan) where
   pub total_in : (d : Does) (k s out again pc : ℕ) → total plan (items_in plan d k s out again pc) ≡ width_in plan d k

@@ -1,5 +1,5 @@
 -- A plan that waits directly behind each blocking access waits in time.
-use Rattle.std.proofs.Common.{◌≡◌, ℕ, ◌+◌, ◌<◌, List, [], ◌∷◌, ◌++◌, length, Some, true, refl, ap, arith}
+use Rattle.std.proofs.Common.{◌≡◌, ℕ, List, [], ◌∷◌, ◌++◌, Some, refl, ap, arith}
 use Rattle.std.specs.List.{Contains}
 use Rattle.effect_order.specs.Flow.{PathBy}
 use Rattle.site_graph.specs.declared.plan.Plan.{Plan}
@@ -7,7 +7,7 @@ use Rattle.site_graph.specs.declared.site.Site.{Site}
 use Rattle.site_graph.specs.declared.site.SiteKind.TheVariants.{Read}
 use Rattle.site_graph.specs.Graph.{Graph, site_at, IsAt, is_blocking}
 use Rattle.site_graph.specs.Ways.{Goes}
-use Rattle.site_graph.specs.Plans.{waits_at, Uses, Blocks, IsPlainPlan, PlainPlansWaitInTime}
+use Rattle.site_graph.specs.Plans.{waits_at, Uses, IsPlainPlan, PlainPlansWaitInTime}
 
 first_of : (x : ℕ) (xs : List ℕ) → Contains (x ∷ xs) x
 first_of x xs = (0, omega arith, refl)

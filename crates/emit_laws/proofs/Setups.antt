@@ -1,17 +1,14 @@
 -- The code of a source under a plan, as the proofs see it, and what is left to show of its flow and its code.
-use Rattle.std.proofs.Common.{◌≡◌, ℕ, zero, suc, ◌+◌, ◌<◌, ◌≤◌, List, [], ◌∷◌, ◌++◌, length, Option, Some, None, Bool, true, false, slice_get, refl, sym, ap, ◌∙◌, subst, arith}
-use Rattle.std.specs.List.{All}
+use Rattle.std.proofs.Common.{◌≡◌, ℕ, List, [], ◌∷◌, length, Some, true, false, slice_get, refl, arith}
 use Rattle.std.specs.Option.{option_map_or}
 use Rattle.sc_layout.specs.Layout.{Arrangement}
 use Rattle.sc_isa.specs.declared.code.Code.{Code}
 use Rattle.sc_core.specs.Core.{Function, Program}
-use Rattle.sc_meaning.specs.Meaning.{Setting, pointed}
 use Rattle.sc_meaning.specs.Points.{first_point}
 use Rattle.site_graph.specs.declared.plan.Plan.{Plan}
 use Rattle.site_graph.specs.declared.point.Point.{Point}
 use Rattle.site_graph.specs.declared.site.Site.{Site}
 use Rattle.site_graph.specs.Graph.{Graph, site_at, IsAt}
-use Rattle.site_graph.specs.Kept.{IsSiteOf}
 use Rattle.site_graph.specs.Ways.{Goes}
 use Rattle.site_graph.specs.Plans.{waits_at, Uses, IsPlan, WaitsInTime}
 use Rattle.flow_form.specs.FlowOf.{returns, flow_of}
@@ -22,7 +19,7 @@ use Rattle.node_emit.specs.Spelled.{Piece}
 use Rattle.node_emit.specs.Stands.{stands_at}
 use Rattle.node_emit.specs.Pointed.{code_points}
 use Rattle.node_emit.specs.Oracles.{plays, at_first}
-use Rattle.emit_laws.proofs.Parts.{In, Setup, FunctionAt}
+use Rattle.emit_laws.proofs.Parts.{Setup, FunctionAt}
 use Rattle.emit_laws.proofs.Openings.{IsReadAt, IsOpen, opens, opens_on, waited_there, waits_within}
 use Rattle.emit_laws.proofs.Standing.{Timely}
 use Rattle.emit_laws.proofs.Whole.{does_as_source}

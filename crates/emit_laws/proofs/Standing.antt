@@ -1,5 +1,5 @@
 -- What may be said of a node's states beside what its source does from there on; and what the plan and the flow give.
-use Rattle.std.proofs.Common.{◌≡◌, ℕ, zero, suc, ◌+◌, ◌<◌, ◌≤◌, List, [], ◌∷◌, ◌++◌, length, map, Option, Some, None, Bool, true, false}
+use Rattle.std.proofs.Common.{◌≡◌, ℕ, suc, ◌<◌, ◌≤◌, List, [], ◌∷◌, ◌++◌, Some, None, Bool, true, false}
 use Rattle.resumption.specs.Resumption.{Asks, Makes, Says, Stops}
 use Rattle.sc_base.specs.declared.value.CopyMode.{CopyMode}
 use Rattle.sc_base.specs.declared.value.End.{End}
@@ -7,10 +7,9 @@ use Rattle.sc_base.specs.declared.value.Place.{Place}
 use Rattle.sc_base.specs.declared.value.Value.{Value}
 use Rattle.sc_isa.specs.declared.access.Access.{Access}
 use Rattle.sc_isa.specs.declared.access.Access.TheVariants as access
-use Rattle.sc_isa.specs.declared.access.Track.{Track}
-use Rattle.sc_isa.specs.declared.access.Track.TheVariants.{Counter, Store, Covered}
+use Rattle.sc_isa.specs.declared.access.Track.TheVariants.{Counter, Store}
 use Rattle.sc_isa.specs.Fitting.{fits, fits_all}
-use Rattle.sc_isa.specs.State.{State, Flight, reads_on, landed}
+use Rattle.sc_isa.specs.State.{State, reads_on, landed}
 use Rattle.sc_isa.specs.Moves.{After, GoesOn, Ends, Move, Comes, Issues, Waits, Meets, Says as Tells}
 use Rattle.sc_isa.specs.Table.{step_of, copy_track}
 use Rattle.sc_meaning.specs.declared.request.Request.{Request}
@@ -22,7 +21,7 @@ use Rattle.node_emit.specs.Law.{is_empty}
 use Rattle.node_emit.specs.Pointed.{entered_at}
 use Rattle.meaning_laws.specs.StepTable.{track_of}
 use Rattle.emit_laws.proofs.Parts.{In, Setup}
-use Rattle.emit_laws.proofs.Ghosts.{Token, World, without, on_counter}
+use Rattle.emit_laws.proofs.Ghosts.{Token, without}
 use Rattle.emit_laws.proofs.Masks.{landing}
 
 -- Where a node is: the point whose run it entered last, the waits of it that are left, whether its own ask may still come, how

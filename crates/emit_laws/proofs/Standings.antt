@@ -1,5 +1,5 @@
 -- The items of a source stand in its code, and where their pieces say.
-use Rattle.std.proofs.Common.{◌≡◌, ℕ, zero, suc, ◌+◌, List, [], ◌∷◌, ◌++◌, length, map, Option, Some, None, slice_get, refl, sym, ap, ◌∙◌, subst, arith}
+use Rattle.std.proofs.Common.{◌≡◌, ℕ, suc, ◌+◌, List, [], ◌∷◌, ◌++◌, length, map, Option, Some, slice_get, refl, sym, ap, ◌∙◌, subst, arith}
 use Rattle.std.proofs.lemmas.List.{length-append, length-map}
 use Rattle.sc_isa.specs.declared.op.Op.{Op}
 use Rattle.sc_isa.specs.declared.op.Op.TheVariants as op
@@ -7,9 +7,9 @@ use Rattle.sc_isa.specs.declared.op.Instr.{Instr}
 use Rattle.site_graph.specs.declared.plan.Plan.{Plan}
 use Rattle.site_graph.specs.Plans.{waits_at}
 use Rattle.node_emit.specs.Runs.{goes_one_way, instr, run_width}
-use Rattle.node_emit.specs.Stands.{Stands, waits_from, stands_from, stands_at, flat}
+use Rattle.node_emit.specs.Stands.{Stands, waits_from, stands_at, flat}
 use Rattle.emit_laws.proofs.Parts.{Setup, RunAt}
-use Rattle.emit_laws.proofs.Items.{Item, glue, runs, item_width, all_instrs, all_stands, all_pieces, stands_ops, stands_are}
+use Rattle.emit_laws.proofs.Items.{Item, glue, runs, all_instrs, all_stands, all_pieces, stands_ops, stands_are}
 use Rattle.emit_laws.proofs.Placed.{HasItems}
 
 append_one : {A : Type 0} (xs : List A) (x : A) (ys : List A) → (xs ++ x ∷ []) ++ ys ≡ xs ++ x ∷ ys

@@ -1,25 +1,21 @@
 -- The code of statements, of functions and of a whole source does what they do.
-use Rattle.std.proofs.Common.{◌≡◌, inl, ℕ, zero, suc, ◌+◌, ◌<◌, ◌≤◌, List, [], ◌∷◌, ◌++◌, length, map, Option, Some, None, slice_get, refl, sym, ap, ◌∙◌, subst, arith}
-use Rattle.std.specs.Prelude.{pos}
+use Rattle.std.proofs.Common.{◌≡◌, inl, ℕ, zero, suc, ◌+◌, ◌<◌, ◌≤◌, List, [], ◌∷◌, ◌++◌, length, Option, Some, None, slice_get, refl, sym, ap, ◌∙◌, subst, arith}
 use Rattle.resumption.specs.Resumption.{Stops}
-use Rattle.sc_base.specs.declared.value.End.TheVariants.{Ended, Fault, Cut}
-use Rattle.sc_base.specs.declared.value.FaultKind.TheVariants.{Depth}
+use Rattle.sc_base.specs.declared.value.End.TheVariants.{Ended}
 use Rattle.sc_base.specs.declared.value.Value.{Value}
 use Rattle.sc_isa.specs.declared.code.FnRow.{FnRow}
 use Rattle.sc_isa.specs.declared.op.Op.TheVariants as op
-use Rattle.sc_core.specs.declared.operation.Operation.TheVariants as does_
 use Rattle.sc_core.specs.Core.{Does, nothing, break, continue, then_, act, choose, loop, return, Function}
 use Rattle.sc_core.specs.Statements.{zero_of}
-use Rattle.sc_meaning.specs.Asking.{PointedDoing, Finishes, Breaks}
-use Rattle.sc_meaning.specs.Memory.{Slot, Memory, top, entered as entered_locals, popped, pushed}
-use Rattle.sc_meaning.specs.Steps.{Rest, Calls, none_awaits, counted}
+use Rattle.sc_meaning.specs.Asking.{PointedDoing, Finishes}
+use Rattle.sc_meaning.specs.Memory.{Slot, Memory, top, entered as entered_locals, popped}
+use Rattle.sc_meaning.specs.Steps.{Rest, none_awaits, counted}
 use Rattle.sc_meaning.specs.Points.{size, sizes, size_of, first_point}
 use Rattle.sc_meaning.specs.Meaning.{pass, Jumps, rounds, calls_by, constant_of, does, end_point, in_body, body_of, entering, begun}
-use Rattle.meaning_laws.specs.StepTable.{arguments_of, HasRow}
-use Rattle.flow_form.specs.Accesses.{accesses, accesses_all, accesses_in}
-use Rattle.flow_form.specs.Exits.{exits, leaves}
-use Rattle.emit_laws.proofs.Parts.{In, Setup, Enter, Flows, Lie, PointAt, CallOf, FunctionAt}
-use Rattle.emit_laws.proofs.Ghosts.{Thing, val, slot_of, plain, slots, Holder, World, memory_of, newest, older, Worth, worths, Stage, between, leaving, turning, limit, entered, called_with, MayFrom, Ready, Token, Runs, push, jump, skip, enter, step_calls, too_deep, tests, turns, returns_to, over}
+use Rattle.flow_form.specs.Accesses.{accesses, accesses_in}
+use Rattle.flow_form.specs.Exits.{leaves}
+use Rattle.emit_laws.proofs.Parts.{In, Setup, Enter, Flows, Lie, PointAt, FunctionAt}
+use Rattle.emit_laws.proofs.Ghosts.{Thing, val, plain, slots, Holder, World, memory_of, older, Worth, worths, Stage, between, leaving, turning, limit, entered, called_with, MayFrom, Token, Runs, push, jump, skip, enter, step_calls, too_deep, tests, turns, returns_to, over}
 use Rattle.emit_laws.proofs.Cells.{in_left, in_right, top_slots, below_slots, called_slots, HeldAll, held_older, held_called, may_from}
 use Rattle.emit_laws.proofs.StepRuns.{CallsRun, action_runs}
 use Rattle.emit_laws.proofs.TreeRuns.{From_, value_runs, values_runs}

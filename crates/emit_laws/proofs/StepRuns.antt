@@ -1,5 +1,5 @@
 -- The run of a step does what the step does.
-use Rattle.std.proofs.Common.{◌≡◌, inl, ℕ, suc, ◌+◌, ◌<◌, ◌≤◌, List, [], ◌∷◌, ◌++◌, length, Option, Some, None, slice_get, refl, sym, ap, ◌∙◌, subst}
+use Rattle.std.proofs.Common.{◌≡◌, inl, ℕ, suc, ◌+◌, ◌≤◌, List, [], ◌∷◌, length, Option, Some, None, refl, sym, ap, ◌∙◌, subst}
 use Rattle.resumption.specs.Resumption.{Asks}
 use Rattle.sc_base.specs.declared.value.Value.{Value}
 use Rattle.sc_isa.specs.Deeds.{Made, makes, faults, stuck, uses, sets, reads, writes, calls, Done, lets_go, ends, sticks, clears, prints, fills, gets, misses, puts, sends, copies, waits, meets}
@@ -9,8 +9,8 @@ use Rattle.sc_core.specs.declared.operation.Action.{Action}
 use Rattle.sc_core.specs.declared.operation.Action.TheVariants as acts
 use Rattle.sc_core.specs.Table.{made_of, done_of}
 use Rattle.sc_meaning.specs.declared.request.Request.TheVariants as request
-use Rattle.sc_meaning.specs.Asking.{PointedDoing, Requested, Answer, fits_read}
-use Rattle.sc_meaning.specs.Memory.{has, Memory, slot, with_slot}
+use Rattle.sc_meaning.specs.Asking.{PointedDoing, Requested, fits_read}
+use Rattle.sc_meaning.specs.Memory.{has, slot, with_slot}
 use Rattle.sc_meaning.specs.Steps.{Rest, Calls, used, shown_or_zero, perform, enact, mode_of}
 use Rattle.sc_meaning.specs.Meaning.{pass, calls_by}
 use Rattle.meaning_laws.specs.StepTable.{arguments_of, arguments_of_action, HasRow}

@@ -1,8 +1,7 @@
 -- Stories of code beside that of its source, by the number of instructions.
-use Rattle.std.proofs.Common.{◌≡◌, ◌≢◌, ◌⊎◌, inl, inr, ℕ, zero, suc, ◌+◌, ◌≤◌, List, [], ◌∷◌, ◌++◌, Bool, true, false, if◌then◌else◌, refl, sym, ap, ◌∙◌, subst, arith}
-use Rattle.resumption.specs.Resumption.{RunOf, Short, after_event, after_text}
-use Rattle.sc_base.specs.declared.value.End.{End}
-use Rattle.node_emit.specs.Oracles.{Shown, Story, at, nothing_more, over, at_point}
+use Rattle.std.proofs.Common.{◌≡◌, ◌≢◌, inl, inr, ℕ, zero, suc, ◌≤◌, List, [], ◌∷◌, ◌++◌, Bool, true, false, if◌then◌else◌, refl, sym, ap, ◌∙◌, subst, arith}
+use Rattle.resumption.specs.Resumption.{Short, after_event, after_text}
+use Rattle.node_emit.specs.Oracles.{Shown, Story, at, nothing_more, at_point}
 use Rattle.node_emit.specs.Law.{IsFront, Agree, IsBegun}
 
 pub record Shows (told : Story) (played : ℕ → Story) : Type 0 where

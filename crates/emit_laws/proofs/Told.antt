@@ -1,17 +1,16 @@
 -- Code shows what its source does: this is kept by each step.
-use Rattle.std.proofs.Common.{◌≡◌, ℕ, zero, suc, ◌+◌, ◌<◌, ◌==◌, List, [], ◌∷◌, ◌++◌, map, filter, not, Option, Some, None, Bool, true, false, if◌then◌else◌, refl, sym, ap, ◌∙◌, subst, arith}
+use Rattle.std.proofs.Common.{◌≡◌, ℕ, suc, ◌<◌, ◌==◌, List, [], ◌∷◌, ◌++◌, map, filter, not, Option, Some, None, Bool, true, false, if◌then◌else◌, refl, sym, ap, ◌∙◌, subst}
 use Rattle.std.proofs.lemmas.List.{map-append}
 use Rattle.std.proofs.lemmas.Bool.Decides.{Decides-eqb}
-use Rattle.resumption.specs.Resumption.{Asks, Makes, Says, Stops, after_event, after_text}
+use Rattle.resumption.specs.Resumption.{Asks, Makes, after_event}
 use Rattle.sc_base.specs.declared.value.CopyMode.{CopyMode}
 use Rattle.sc_base.specs.declared.value.CopyMode.TheVariants.{Blocking, Split, OneWay}
-use Rattle.sc_base.specs.declared.value.End.{End}
 use Rattle.sc_base.specs.declared.value.End.TheVariants.{Waiting}
 use Rattle.sc_base.specs.declared.value.Place.{Place}
 use Rattle.sc_base.specs.declared.value.Value.{Value}
 use Rattle.sc_isa.specs.declared.access.Access.{Access}
 use Rattle.sc_isa.specs.declared.access.Access.TheVariants as access
-use Rattle.sc_isa.specs.declared.access.Track.TheVariants.{Counter, Store, Covered}
+use Rattle.sc_isa.specs.declared.access.Track.TheVariants.{Counter}
 use Rattle.sc_isa.specs.Fitting.{fits, fits_all}
 use Rattle.sc_isa.specs.State.{State, reads_on, landed}
 use Rattle.sc_isa.specs.Moves as moves
@@ -22,15 +21,15 @@ use Rattle.sc_meaning.specs.declared.request.Request.{Request}
 use Rattle.sc_meaning.specs.declared.request.Request.TheVariants as request
 use Rattle.sc_meaning.specs.Asking as source
 use Rattle.sc_meaning.specs.Asking.{PointedDoing}
-use Rattle.sc_meaning.specs.OfAccess.{request_in, unlined, mode_of}
+use Rattle.sc_meaning.specs.OfAccess.{request_in}
 use Rattle.sc_meaning.specs.Steps.{unless_broken, barrier_request}
 use Rattle.meaning_laws.specs.StepTable.{track_of}
 use Rattle.site_graph.specs.declared.plan.Plan.{Plan}
 use Rattle.node_emit.specs.Law.{is_empty}
 use Rattle.node_emit.specs.Spelled.{Piece}
-use Rattle.node_emit.specs.Stands.{Stands, stands_at}
-use Rattle.node_emit.specs.Pointed.{PointedAsking, entered_at, marked, come_all, comes_to, asked_by, points_from, passed_by}
-use Rattle.node_emit.specs.Oracles.{Oracle, Shown, requests, Story, nothing_more, over, Flying, Progress, is_on, issued, waited, plays, Told, told_after, tells}
+use Rattle.node_emit.specs.Stands.{stands_at}
+use Rattle.node_emit.specs.Pointed.{PointedAsking, entered_at, marked, come_all, asked_by, points_from, passed_by}
+use Rattle.node_emit.specs.Oracles.{Oracle, requests, Story, nothing_more, over, Flying, Progress, is_on, issued, waited, plays, Told, tells}
 use Rattle.emit_laws.proofs.Parts.{Setup}
 use Rattle.emit_laws.proofs.Ghosts.{Token, without, on_counter}
 use Rattle.emit_laws.proofs.Masks.{by_bool, landing}

@@ -1,5 +1,5 @@
 -- The code of an expression does what the expression does.
-use Rattle.std.proofs.Common.{◌≡◌, inl, ℕ, suc, ◌+◌, ◌≤◌, List, [], ◌∷◌, ◌++◌, length, Option, Some, None, refl, sym, ap, subst, arith}
+use Rattle.std.proofs.Common.{◌≡◌, inl, ℕ, suc, ◌+◌, ◌≤◌, List, [], ◌∷◌, length, Option, Some, None, refl, sym, ap, subst, arith}
 use Rattle.std.specs.Prelude.{pos}
 use Rattle.sc_base.specs.declared.value.Value.{Value}
 use Rattle.sc_base.specs.declared.value.Value.TheVariants.{Int}
@@ -16,7 +16,7 @@ use Rattle.flow_form.specs.Accesses.{accesses, accesses_all, accesses_by}
 use Rattle.flow_form.specs.Exits.{fetched, fetched_all, fetched_by, fetched_back, behind, behind_back, exits, exits_all}
 use Rattle.flow_form.specs.Steps.{callee_of}
 use Rattle.emit_laws.proofs.Parts.{In, Setup, Flow, FlowAll, FlowBack, FlowStep, StepAt, Lies, LieAll, BackAt, count_of}
-use Rattle.emit_laws.proofs.Ghosts.{Thing, val, Token, Holder, World, memory_of, Worth, thing, worths, things, onto, Stage, between, limit, entered, Runs, push, dup, jump, enter, tests}
+use Rattle.emit_laws.proofs.Ghosts.{Thing, val, Holder, World, memory_of, Worth, thing, worths, things, onto, Stage, between, limit, entered, Runs, push, dup, jump, enter, tests}
 use Rattle.emit_laws.proofs.Cells.{in_left, in_right, HeldAll, Comes, AllCome, may_from, comes_left, comes_right, all_right}
 use Rattle.emit_laws.proofs.StepRuns.{CallsRun, Then, From, step_runs}
 

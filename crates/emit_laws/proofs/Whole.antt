@@ -1,30 +1,28 @@
 -- From the beginning the code does as its source does.
-use Rattle.std.proofs.Common.{◌≡◌, ◌≢◌, ℕ, zero, suc, ◌+◌, ◌-◌, ◌<◌, List, [], ◌∷◌, ◌++◌, length, map, Option, Some, None, true, slice_get, refl, sym, ap, ◌∙◌, subst, arith}
+use Rattle.std.proofs.Common.{◌≡◌, ℕ, zero, suc, ◌-◌, List, [], ◌∷◌, length, Some, true, slice_get, refl, sym, ap, ◌∙◌, subst, arith}
 use Rattle.std.specs.Prelude.{replicate}
 use Rattle.sc_base.specs.declared.value.Value.{Value}
 use Rattle.sc_isa.specs.declared.code.FnRow.{FnRow}
-use Rattle.sc_isa.specs.declared.operand.Slot.{Slot}
-use Rattle.sc_isa.specs.State.{State, Frame, Flight, blank, entered_with}
+use Rattle.sc_isa.specs.State.{blank}
 use Rattle.sc_isa.specs.Begin.{entry, begin, begins_at}
 use Rattle.sc_core.specs.Core.{Function}
 use Rattle.sc_meaning.specs.Meaning.{pointed, begun}
 use Rattle.sc_meaning.specs.Points.{first_point}
-use Rattle.sc_meaning.specs.Asking.{PointedDoing}
 use Rattle.site_graph.specs.declared.plan.Plan.{Plan}
 use Rattle.node_emit.specs.Law.{is_empty, DoesAsSource}
 use Rattle.node_emit.specs.Spelled.{Piece}
 use Rattle.node_emit.specs.Stands.{stands_at}
 use Rattle.node_emit.specs.Pointed.{points_from}
-use Rattle.node_emit.specs.Oracles.{Oracle, Story, plays, tells, at_first, told_at_first}
+use Rattle.node_emit.specs.Oracles.{Oracle, plays, tells, at_first, told_at_first}
 use Rattle.emit_laws.proofs.Parts.{Setup, FunctionAt}
-use Rattle.emit_laws.proofs.Ghosts.{Thing, called_with, World, between}
+use Rattle.emit_laws.proofs.Ghosts.{called_with}
 use Rattle.emit_laws.proofs.Masks.{mask_slots, state_of}
 use Rattle.emit_laws.proofs.Fitting.{called_given, same_frame, same_state}
 use Rattle.emit_laws.proofs.Awaited.{no_gets}
 use Rattle.emit_laws.proofs.Keeping.{Fit}
 use Rattle.emit_laws.proofs.Standing.{Now, Motive, Timely}
 use Rattle.emit_laws.proofs.StatementRuns.{start, source_runs}
-use Rattle.emit_laws.proofs.Late.{Late, now_at, Leading, direct, late}
+use Rattle.emit_laws.proofs.Late.{Late, direct, late}
 use Rattle.emit_laws.proofs.Stories.{Shows}
 use Rattle.emit_laws.proofs.Told.{stories, shown_at}
 
