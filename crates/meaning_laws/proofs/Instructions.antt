@@ -35,12 +35,12 @@ use Rattle.meaning_laws.specs.StepTable.{in_turn, does_ops, with_values, argumen
 
 -- ---- taking the values of the arguments
 
-taken_on : (ws acc : List Value) (stack : List Operand)
+pub taken_on : (ws acc : List Value) (stack : List Operand)
     → taken (length ws) acc (map Here ws ++ stack) ≡ Some (record { values = reverse_aux ws acc; rest = stack })
 taken_on [] acc stack = refl
 taken_on (w ∷ ws) acc stack = taken_on ws (w ∷ acc) stack
 
-taken_all : (n : ℕ) (values : List Value) (stack : List Operand) → length values ≡ n
+pub taken_all : (n : ℕ) (values : List Value) (stack : List Operand) → length values ≡ n
     → taken n [] (map Here (reverse values) ++ stack) ≡ Some (record { values = values; rest = stack })
 taken_all n values stack e =
     let all = taken_on (reverse values) [] stack in
@@ -49,7 +49,7 @@ taken_all n values stack e =
     (all ∙ ap (λ (vs : List Value). Some (record { values = vs; rest = stack })) (reverse-reverse values))
 
 -- an instruction that is the last
-alone : (move : Move) → in_turn move (λ s. Comes (GoesOn s)) ≡ move
+pub alone : (move : Move) → in_turn move (λ s. Comes (GoesOn s)) ≡ move
 alone (Comes (GoesOn s)) = refl
 alone (Comes (Ends end)) = refl
 alone (Comes Sticks) = refl
@@ -59,13 +59,13 @@ alone (Meets stores s) = refl
 alone (Says text s) = refl
 
 module _ (code : Code) (layout : Arrangement) (node line : ℕ) where
-  gains_are : (g : Gain) (site : ℕ) (track : Track) (values : List Value) (s : State) → length values ≡ takes g
+  pub gains_are : (g : Gain) (site : ℕ) (track : Track) (values : List Value) (s : State) → length values ≡ takes g
       → machine.gains code layout node g site track line (with_values values s)
       ≡ gain_done code site track line s (made layout node g values)
   gains_are g site track values s e =
       ap (λ t. machine.gained code layout node g site track line (with_values values s) t) (taken_all (takes g) values s.frame.stack e)
 
-  acts_are : (a : Act) (site : ℕ) (track : Track) (values : List Value) (s : State) → length values ≡ uses_up a
+  pub acts_are : (a : Act) (site : ℕ) (track : Track) (values : List Value) (s : State) → length values ≡ uses_up a
       → machine.acts code layout node a site track line (with_values values s) ≡ act_done site track line s (done layout a values)
   acts_are a site track values s e =
       ap (λ t. machine.acted layout a site track line (with_values values s) t) (taken_all (uses_up a) values s.frame.stack e)
@@ -77,13 +77,13 @@ module _ (code : Code) (layout : Arrangement) (node line : ℕ) where
   free site track s (fails kind) = refl
   free site track s wrong = refl
 
-  pure_is : (p : Pure) (site : ℕ) (track : Track) (values : List Value) (s : State) → length values ≡ arity p
+  pub pure_is : (p : Pure) (site : ℕ) (track : Track) (values : List Value) (s : State) → length values ≡ arity p
       → machine.gives code layout node (pure p) line (with_values values s)
       ≡ gain_done code site track line s (made_by (computed layout node p values))
   pure_is p site track values s e = gains_are (pure p) 0 (Counter 0) values s e ∙ free site track s (computed layout node p values)
 
   -- one instruction that computes, and then another by its value
-  then_is : (site : ℕ) (track : Track) (o : Outcome) (then_s s : State) (go : State → Move) (k : Value → Made)
+  pub then_is : (site : ℕ) (track : Track) (o : Outcome) (then_s s : State) (go : State → Move) (k : Value → Made)
       → ((v : Value) → go (pushed (Here v) then_s) ≡ gain_done code site track line s (k v))
       → in_turn (gain_done code 0 (Counter 0) line then_s (made_by o)) go ≡ gain_done code site track line s (then_made o k)
   then_is site track (gives v) then_s s go k h = h v
