@@ -1,13 +1,12 @@
 -- What choices add to code while it is written: the two targets of each are set once it is written.
-use Rattle.std.proofs.Common.{◌≡◌, refl, sym, ap, ◌∙◌, ℕ, zero, ◌+◌, ◌-◌, suc, pos, Bool, true, false, List, [], ◌∷◌, ◌++◌, length, map, set, arith, append_assoc, length-append}
-use Rattle.std.proofs.lemmas.List.{length-map, set_at, append-nil, length-set}
+use Rattle.std.proofs.Common.{◌≡◌, refl, sym, ap, ◌∙◌, ℕ, zero, ◌+◌, ◌-◌, suc, pos, Bool, true, false, List, [], ◌∷◌, ◌++◌, length, set, arith, append_assoc, length-append}
+use Rattle.std.proofs.lemmas.List.{length-map, set_at, length-set}
 use Rattle.sc_isa.specs.declared.op.Instr.{Instr}
-use Rattle.sc_isa.specs.declared.op.Op.TheVariants.{Push, Jump, Truth, Zero, Wait}
+use Rattle.sc_isa.specs.declared.op.Op.TheVariants.{Push, Jump, Truth, Zero}
 use Rattle.sc_core.specs.Core.{Core, choice}
 use Rattle.sc_meaning.specs.Points.{size}
 use Rattle.flow_form.specs.Accesses.{accesses}
 use Rattle.site_graph.specs.declared.plan.Plan.{Plan}
-use Rattle.site_graph.specs.Plans.{waits_at}
 use Rattle.node_emit.specs.Runs.{instr, outside, run, run_width, test_ops, test_width}
 use Rattle.node_emit.specs.Widths.{width}
 use Rattle.node_emit.specs.Expressions.{code}

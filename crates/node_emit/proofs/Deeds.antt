@@ -1,17 +1,14 @@
 -- What statements add to code while it is written, one form at a time.
-use Rattle.std.proofs.Common.{◌≡◌, refl, sym, ap, ◌∙◌, ℕ, ◌+◌, ◌-◌, Bool, List, [], ◌∷◌, ◌++◌, length, map, Option, arith, append_assoc, length-append}
+use Rattle.std.proofs.Common.{◌≡◌, refl, sym, ap, ◌∙◌, ℕ, ◌+◌, ◌-◌, Bool, List, [], ◌∷◌, ◌++◌, length, arith, append_assoc, length-append}
 use Rattle.std.proofs.lemmas.List.{length-map, append-nil, length-set}
-use Rattle.sc_isa.specs.declared.op.Instr.{Instr}
-use Rattle.sc_isa.specs.declared.op.Op.{Op}
-use Rattle.sc_isa.specs.declared.op.Op.TheVariants.{Jump, Turn, Ret, Wait}
+use Rattle.sc_isa.specs.declared.op.Op.TheVariants.{Jump, Ret}
 use Rattle.sc_core.specs.declared.operation.Action.{Action}
-use Rattle.sc_core.specs.Core.{Core, Arguments, Does, nothing, break, continue, then_, act, choose, loop, return}
-use Rattle.sc_core.specs.ViewStatements.{Armed, chosen, block_of}
+use Rattle.sc_core.specs.Core.{Core, Arguments, Does, nothing, break, continue, then_, act, choose, return}
+use Rattle.sc_core.specs.ViewStatements.{Armed, chosen}
 use Rattle.sc_meaning.specs.Points.{size, size_of}
-use Rattle.flow_form.specs.Accesses.{accesses, accesses_in, accesses_by_action}
+use Rattle.flow_form.specs.Accesses.{accesses, accesses_in}
 use Rattle.site_graph.specs.declared.plan.Plan.{Plan}
-use Rattle.site_graph.specs.Plans.{waits_at}
-use Rattle.node_emit.specs.Runs.{instr, outside, run, run_width, test_ops, test_width}
+use Rattle.node_emit.specs.Runs.{run_width, test_width}
 use Rattle.node_emit.specs.Widths.{width, width_in}
 use Rattle.node_emit.specs.Expressions.{code}
 use Rattle.node_emit.specs.Statements.{code_in}
@@ -19,7 +16,7 @@ use Rattle.node_emit.specs.Drafts.{Written, grown, put_instr, put, led, led_all,
 use Rattle.node_emit.specs.Done.{done, breaks_in, continues_in, breaks_of, continues_of, entered, arm_put, arm_jump, arms_put, arms_jumps, arms_breaks, arms_continues}
 use Rattle.node_emit.proofs.Lengths.{length-code, length-in, length-test}
 use Rattle.node_emit.proofs.Patches.{written-same, grown-none}
-use Rattle.node_emit.proofs.Choices.{choice-wrote, length-test_run, ended-none, ended-first}
+use Rattle.node_emit.proofs.Choices.{choice-wrote, ended-none, ended-first}
 use Rattle.node_emit.proofs.Turns.{breaks_in-same, continues_in-same, done-loop, breaks-loop, continues-loop}
 
 pub done-nothing : (plan : Plan) (d : Written) → done plan nothing d ≡ d

@@ -1,25 +1,24 @@
 -- What expressions add to code while it is written, one form at a time.
-use Rattle.std.proofs.Common.{◌≡◌, refl, sym, ap, ◌∙◌, ℕ, ◌+◌, ◌-◌, suc, Bool, true, false, pos, List, [], ◌∷◌, ◌++◌, length, map, set, Option, Some, None, arith, append_assoc, length-append}
-use Rattle.std.proofs.lemmas.List.{length-map, set_at, append-nil}
+use Rattle.std.proofs.Common.{◌≡◌, refl, sym, ap, ◌∙◌, ℕ, ◌+◌, pos, List, [], ◌∷◌, ◌++◌, length, Option, Some, None, arith, append_assoc, length-append}
+use Rattle.std.proofs.lemmas.List.{length-map, append-nil}
 use Rattle.sc_isa.specs.declared.op.Instr.{Instr}
 use Rattle.sc_isa.specs.declared.op.Op.{Op}
-use Rattle.sc_isa.specs.declared.op.Op.TheVariants.{Push, Dup, Wait}
+use Rattle.sc_isa.specs.declared.op.Op.TheVariants.{Push, Dup}
 use Rattle.sc_meaning.specs.Points.{size, one_if_some}
 use Rattle.flow_form.specs.Accesses.{accesses, accesses_by, accesses_back}
 use Rattle.sc_core.specs.declared.operation.Constant.{Constant}
 use Rattle.sc_core.specs.declared.operation.Operation.{Operation}
 use Rattle.sc_core.specs.declared.operation.Operation.TheVariants.{Read, Write}
-use Rattle.sc_core.specs.Core.{Core, constant, step, choice, update, Arguments, none, argument}
+use Rattle.sc_core.specs.Core.{Core, constant, step, update, Arguments, none, argument}
 use Rattle.sc_core.specs.View.{Linked, linked}
 use Rattle.site_graph.specs.declared.plan.Plan.{Plan}
-use Rattle.site_graph.specs.Plans.{waits_at}
-use Rattle.node_emit.specs.Runs.{instr, outside, run, run_width, constant_op}
+use Rattle.node_emit.specs.Runs.{outside, run_width, constant_op}
 use Rattle.node_emit.specs.Widths.{width}
-use Rattle.node_emit.specs.Expressions.{code, code_all, step_code, back_code}
+use Rattle.node_emit.specs.Expressions.{code, step_code, back_code}
 use Rattle.node_emit.specs.Drafts.{Written, grown, put_instr, put, ran, counted, stepped, taken_back, emitted, emitted_all}
 use Rattle.node_emit.specs.Drafted.{linked_put, chained}
-use Rattle.node_emit.proofs.Lengths.{length-code, length-all, length-ops, length-test}
-use Rattle.node_emit.proofs.Patches.{written-same, grown-grown, grown-none}
+use Rattle.node_emit.proofs.Lengths.{length-code}
+use Rattle.node_emit.proofs.Patches.{written-same, grown-none}
 
 pub emitted-is : (plan : Plan) (e : Core) (d : Written) → emitted plan e d ≡ grown d (code plan e d.point d.sites (length d.instrs)) (size e) (accesses e)
 unfolding emitted

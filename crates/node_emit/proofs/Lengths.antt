@@ -1,5 +1,5 @@
 -- Code is as long as it is said to be.
-use Rattle.std.proofs.Common.{◌≡◌, refl, ℕ, ◌+◌, suc, Bool, true, false, List, [], ◌∷◌, ◌++◌, length, map, Option, Some, None, arith, length-append}
+use Rattle.std.proofs.Common.{◌≡◌, refl, ℕ, Bool, true, false, length, Option, Some, None, arith, length-append}
 use Rattle.std.proofs.lemmas.List.{length-map}
 use Rattle.sc_core.specs.declared.operation.Operation.{Operation}
 use Rattle.sc_core.specs.declared.operation.Operation.TheVariants.{Use, Element, Address, Own, Convert, Forward, Back, Binary, Unary, Same, Differ, IsNull, ToGlobal, ToProc, ToLocal, Set, Call, Read, Write}
@@ -10,7 +10,7 @@ use Rattle.sc_core.specs.Table.{ops_of, ops_of_action}
 use Rattle.site_graph.specs.declared.plan.Plan.{Plan}
 use Rattle.node_emit.specs.Runs.{test_ops, test_width}
 use Rattle.node_emit.specs.Widths.{ops_width, action_width, back_width, width, widths, width_in}
-use Rattle.node_emit.specs.Expressions.{step_code, back_code, code, code_all}
+use Rattle.node_emit.specs.Expressions.{back_code, code, code_all}
 use Rattle.node_emit.specs.Statements.{code_in}
 
 pub length-ops : (w : Bool) (site : ℕ) (operation : Operation) → length (ops_of w site operation) ≡ ops_width operation

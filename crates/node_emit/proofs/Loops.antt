@@ -1,21 +1,19 @@
 -- The jumps out of a loop and on with it are set in what was written with 0 as their target.
-use Rattle.std.proofs.Common.{◌≡◌, refl, sym, ap, ◌∙◌, ℕ, ◌+◌, List, [], ◌∷◌, ◌++◌, length, map, set, arith, append_assoc, length-append}
+use Rattle.std.proofs.Common.{◌≡◌, refl, sym, ap, ◌∙◌, ℕ, ◌+◌, List, [], ◌∷◌, ◌++◌, length, set, arith, append_assoc, length-append}
 use Rattle.std.proofs.lemmas.List.{length-map, set_at, append-nil, length-set}
 use Rattle.sc_isa.specs.declared.op.Instr.{Instr}
-use Rattle.sc_isa.specs.declared.op.Op.TheVariants.{Jump, Turn, Wait}
+use Rattle.sc_isa.specs.declared.op.Op.TheVariants.{Jump, Turn}
 use Rattle.sc_core.specs.Core.{Does, nothing, break, continue, then_, act, choose, loop, return}
 use Rattle.sc_meaning.specs.Points.{size, size_of}
 use Rattle.flow_form.specs.Accesses.{accesses, accesses_in}
 use Rattle.site_graph.specs.declared.plan.Plan.{Plan}
-use Rattle.site_graph.specs.Plans.{waits_at}
-use Rattle.node_emit.specs.Runs.{instr, outside, run, run_width, test_ops, test_width}
+use Rattle.node_emit.specs.Runs.{outside, run, run_width, test_ops, test_width}
 use Rattle.node_emit.specs.Widths.{width, width_in}
 use Rattle.node_emit.specs.Expressions.{code}
 use Rattle.node_emit.specs.Statements.{code_in}
 use Rattle.node_emit.specs.Drafts.{Written, led, led_all}
 use Rattle.node_emit.specs.Done.{breaks_in, continues_in}
 use Rattle.node_emit.proofs.Lengths.{length-code, length-in, length-test}
-use Rattle.node_emit.proofs.Patches.{written-same}
 
 -- the jumps at these places lead to the target
 unfoldable pub sets : List ℕ → (target : ℕ) → List Instr → List Instr

@@ -1,5 +1,5 @@
 -- What single instructions, waits and patches do to code while it is written.
-use Rattle.std.proofs.Common.{◌≡◌, refl, sym, ap, ◌∙◌, ℕ, ◌+◌, ◌≤◌, List, [], ◌∷◌, ◌++◌, length, map, set, slice_get, get_or, suc, Some, None, arith, add-one, append_assoc, length-append}
+use Rattle.std.proofs.Common.{◌≡◌, refl, sym, ap, ◌∙◌, ℕ, ◌+◌, ◌≤◌, List, [], ◌∷◌, ◌++◌, length, set, slice_get, get_or, None, arith, add-one, append_assoc, length-append}
 use Rattle.std.proofs.lemmas.List.{set_past, append-nil}
 use Rattle.std.proofs.lemmas.Option.{unwrap_or-slice_get}
 use Rattle.std.specs.Option.{unwrap_or}
@@ -12,8 +12,8 @@ use Rattle.sc_core.specs.Table.{ops_of, ops_of_action}
 use Rattle.flow_form.specs.Accesses.{accesses_by, accesses_by_action}
 use Rattle.site_graph.specs.declared.plan.Plan.{Plan}
 use Rattle.site_graph.specs.Plans.{waits_at}
-use Rattle.node_emit.specs.Runs.{goes_one_way, instr, outside, run}
-use Rattle.node_emit.specs.Drafts.{Written, grown, put_instr, put_all, passed, waits_put, led, led_all, ran, counted, stepped, acted, place_of}
+use Rattle.node_emit.specs.Runs.{goes_one_way, instr, outside}
+use Rattle.node_emit.specs.Drafts.{Written, grown, put_instr, put_all, passed, waits_put, led, led_all, ran, counted, stepped, acted}
 
 pub written-same : (a b : Written) → a.instrs ≡ b.instrs → a.point ≡ b.point → a.sites ≡ b.sites → a ≡ b
 written-same a b e f g =

@@ -11,27 +11,24 @@ use Rattle.sc_base.specs.declared.shape.Star.{Star}
 use Rattle.sc_base.specs.declared.limits.TheConstants.{LIMITS}
 use Rattle.sc_isa.specs.declared.op.Instr.{Instr}
 use Rattle.sc_isa.specs.declared.op.Op.{Op}
-use Rattle.sc_isa.specs.declared.op.Op.TheVariants.{Ret, Wait}
+use Rattle.sc_isa.specs.declared.op.Op.TheVariants.{Ret}
 use Rattle.sc_isa.specs.declared.code.Code.{Code}
-use Rattle.sc_isa.specs.declared.code.FnRow.{FnRow}
 use Rattle.sc_core.specs.declared.operation.Constant.{Constant}
 use Rattle.sc_core.specs.declared.operation.Constant.TheVariants as constants
 use Rattle.sc_core.specs.Core.{Function, Program}
 use Rattle.sc_core.specs.Places.{last_of, is_pointer}
-use Rattle.sc_core.specs.Statements.{has_star, zero_of}
+use Rattle.sc_core.specs.Statements.{zero_of}
 use Rattle.sc_meaning.specs.Points.{size_of}
-use Rattle.flow_form.specs.Accesses.{accesses_in, accesses_of}
+use Rattle.flow_form.specs.Accesses.{accesses_in}
 use Rattle.site_graph.specs.declared.plan.Plan.{Plan}
-use Rattle.site_graph.specs.Plans.{waits_at}
-use Rattle.node_emit.specs.Runs.{instr, outside, run, constant_op}
-use Rattle.node_emit.specs.Widths.{width_in, width_of}
+use Rattle.node_emit.specs.Runs.{outside, run, constant_op}
+use Rattle.node_emit.specs.Widths.{width_of}
 use Rattle.node_emit.specs.Statements.{code_in}
 use Rattle.node_emit.specs.Sources.{function_code, functions_code, locals_of, rows_from, IsCodeOf, IsFirstOver}
 use Rattle.node_emit.specs.Drafts.{Written, grown, put, passed, ran}
 use Rattle.node_emit.specs.Done.{done}
 use Rattle.node_emit.specs.Whole.{function_put, functions_put, row_of, rows_of}
 use Rattle.node_emit.proofs.Lengths.{length-in}
-use Rattle.node_emit.proofs.Patches.{written-same}
 use Rattle.node_emit.proofs.Emitted.{grown-same, put-grown}
 use Rattle.node_emit.proofs.Turns.{done-grown, ran-grown, code_in-same}
 

@@ -1,23 +1,22 @@
 -- What loops add to code while it is written: the jumps out of one and on with it are set once it is written.
-use Rattle.std.proofs.Common.{◌≡◌, refl, sym, ap, ◌∙◌, ℕ, ◌+◌, List, [], ◌∷◌, ◌++◌, length, map, Option, arith, append_assoc, length-append}
+use Rattle.std.proofs.Common.{◌≡◌, refl, sym, ap, ◌∙◌, ℕ, ◌+◌, List, [], ◌∷◌, ◌++◌, length, Option, arith, append_assoc, length-append}
 use Rattle.std.proofs.lemmas.List.{length-map, append-nil}
 use Rattle.sc_isa.specs.declared.op.Instr.{Instr}
 use Rattle.sc_isa.specs.declared.op.Op.{Op}
-use Rattle.sc_isa.specs.declared.op.Op.TheVariants.{Jump, Turn, Wait}
+use Rattle.sc_isa.specs.declared.op.Op.TheVariants.{Jump, Turn}
 use Rattle.sc_core.specs.Core.{Does, loop}
 use Rattle.sc_meaning.specs.Points.{size_of}
 use Rattle.flow_form.specs.Accesses.{accesses_in}
 use Rattle.site_graph.specs.declared.plan.Plan.{Plan}
-use Rattle.site_graph.specs.Plans.{waits_at}
-use Rattle.node_emit.specs.Runs.{instr, outside, run, run_width}
+use Rattle.node_emit.specs.Runs.{outside, run, run_width}
 use Rattle.node_emit.specs.Widths.{width_in}
 use Rattle.node_emit.specs.Statements.{code_in}
 use Rattle.node_emit.specs.Drafts.{Written, grown, put, ran, ended}
 use Rattle.node_emit.specs.Done.{done, breaks_in, continues_in, breaks_of, continues_of}
 use Rattle.node_emit.proofs.Lengths.{length-in}
 use Rattle.node_emit.proofs.Patches.{written-same}
-use Rattle.node_emit.proofs.Emitted.{grown-same, put-grown}
-use Rattle.node_emit.proofs.Loops.{sets, sets-append, length-sets, led_all-sets, breaks-set, continues-set}
+use Rattle.node_emit.proofs.Emitted.{put-grown}
+use Rattle.node_emit.proofs.Loops.{sets, sets-append, led_all-sets, breaks-set, continues-set}
 
 done-is : (plan : Plan) (s : Does) (d : Written) →
     done plan s d ≡ grown d (code_in plan s d.point d.sites 0 0 (length d.instrs)) (size_of s) (accesses_in s)

@@ -1,7 +1,7 @@
 -- What statements add to code while it is written. The jumps of `break` and `continue` lead to 0 until their loop is
 -- written; their places are kept.
 use Rattle.std.specs.Prelude.{◌+◌, ◌-◌, ℕ, List, [], ◌∷◌, ◌++◌, length}
-use Rattle.sc_core.specs.Core.{Does, nothing, break, continue, then_, act, choose, loop, return}
+use Rattle.sc_core.specs.Core.{Does, break, continue, then_, choose, loop}
 use Rattle.sc_core.specs.ViewStatements.{Armed}
 use Rattle.sc_meaning.specs.Points.{size, size_of}
 use Rattle.flow_form.specs.Accesses.{accesses_in}

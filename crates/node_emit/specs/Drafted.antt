@@ -1,5 +1,5 @@
 -- What the parts of a core tree that are kept as lists add to code while it is written.
-use Rattle.std.specs.Prelude.{◌+◌, ◌-◌, ℕ, pos, List, [], ◌∷◌, length}
+use Rattle.std.specs.Prelude.{ℕ, pos, List, [], ◌∷◌, length}
 use Rattle.sc_isa.specs.declared.op.Op.TheVariants.{Push}
 use Rattle.sc_core.specs.View.{Linked, Tested}
 use Rattle.site_graph.specs.declared.plan.Plan.{Plan}

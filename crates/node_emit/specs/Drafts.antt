@@ -1,6 +1,6 @@
 -- Code while it is written, and what each part of a core tree adds to it. A jump whose target is not known yet leads to 0
 -- until it is led on: backpatching, as in Aho, Sethi and Ullman, "Compilers" (1986).
-use Rattle.std.specs.Prelude.{ℕ, suc, ◌+◌, ◌-◌, pos, List, [], ◌∷◌, ◌++◌, length, map, set, Option, Some, None, Bool}
+use Rattle.std.specs.Prelude.{ℕ, suc, ◌+◌, pos, List, [], ◌∷◌, ◌++◌, length, map, set, Option, Some, None, Bool}
 use Rattle.sc_isa.specs.declared.op.Instr.{Instr}
 use Rattle.sc_isa.specs.declared.op.Op.{Op}
 use Rattle.sc_isa.specs.declared.op.Op.TheVariants.{Push, Jump, Zero, Wait}
@@ -11,7 +11,6 @@ use Rattle.sc_core.specs.Table.{ops_of, ops_of_action}
 use Rattle.sc_meaning.specs.Points.{size, sizes}
 use Rattle.flow_form.specs.Accesses.{accesses, accesses_all, accesses_by, accesses_by_action}
 use Rattle.site_graph.specs.declared.plan.Plan.{Plan}
-use Rattle.site_graph.specs.Plans.{waits_at}
 use Rattle.node_emit.specs.Runs.{goes_one_way, instr, outside, run, test_ops}
 use Rattle.node_emit.specs.Expressions.{code, code_all}
 

@@ -1,4 +1,4 @@
-use Rattle.std.proofs.Common.{◌≡◌, ◌<◌, ◌∙◌, ap, map, length, get_or, arith}
+use Rattle.std.proofs.Common.{◌∙◌, ap, map, length, get_or, arith}
 use Rattle.sc_core.specs.ViewStatements.{plain_function, plain_program}
 use Rattle.node_emit.proofs.Sources.{function-there, first-over, within-more, all-within}
 use Rattle.node_emit.proofs.whole.check.Goals as goal

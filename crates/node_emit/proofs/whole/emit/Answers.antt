@@ -1,6 +1,5 @@
 use Rattle.std.proofs.Common.{◌≡◌, ◌∙◌, ap, map}
 use Rattle.sc_core.specs.ViewStatements.{plain_function, plain_program}
-use Rattle.node_emit.specs.Drafts.{Written}
 use Rattle.node_emit.specs.Whole.{functions_put, rows_of}
 use Rattle.node_emit.proofs.Sources.{at_first, code-written}
 use Rattle.node_emit.proofs.whole.emit.Goals as goal
