@@ -1,5 +1,5 @@
 -- How rows of bits are kept: each row in words of 64 bits, the lowest bit first.
-use Rattle.std.specs.Prelude.{◌≡◌, ℕ, ◌+◌, ◌*◌, ◌/◌, ◌%◌, ◌^◌, ◌≤◌, ◌<◌, Bool, false, List, map, filter, flat_map, length, slice_index, nat_eq}
+use Rattle.std.specs.Prelude.{◌≡◌, ◌⊎◌, ℕ, ◌+◌, ◌*◌, ◌/◌, ◌%◌, ◌^◌, ◌≤◌, ◌<◌, Bool, true, false, List, map, filter, flat_map, length, slice_index, nat_eq, bit_or}
 use Rattle.std.specs.List.{range_with_len}
 use Rattle.site_graph.specs.declared.bit_rows.BitRows.TheInside.{Inside}
 use Rattle.site_graph.specs.Bits.{Bits}
@@ -30,3 +30,15 @@ pub record AreRows (inside : Inside) : Type 0 where
   pub many : length inside.words.items ≡ inside.rows * words_a_row inside.columns
   pub rest : (row column : ℕ) → row < inside.rows → inside.columns ≤ column → column < 64 * words_a_row inside.columns →
       is_set inside row column ≡ false
+
+-- ---- changes of words
+
+-- a bit is set in the second word that is not set in the first
+abbrev pub Adds : (word more : ℕ) → Type 0
+Adds word more = (n : ℕ) × (n < 64) × (bit_of more n ≡ true) × (bit_of word n ≡ false)
+
+-- the second list is the first, with the bits of `more` in the words from the place `to` on
+pub record AreAdded (to width : ℕ) (more : ℕ → ℕ) (old new : List ℕ) : Type 0 where
+  pub same_length : length new ≡ length old
+  pub inside : (k : ℕ) → k < width → slice_index new (to + k) ≡ bit_or (slice_index old (to + k)) (more k)
+  pub outside : (k : ℕ) → (k < to) ⊎ (to + width ≤ k) → slice_index new k ≡ slice_index old k

@@ -34,3 +34,9 @@ pub record IsJoined (row from : ℕ) (old new : Bits) : Type 0 where
 -- something is set in the row `from` that is not set in the row `row`
 abbrev pub Gains : (row from : ℕ) → Bits → Type 0
 Gains row from bits = (column : ℕ) × IsSet bits from column × (IsSet bits row column → ⊥)
+
+-- the second is the first with what is set both in the row `a_row` of a and in the row `b_row` of b in the row `row` too
+pub record IsWithCommon (row : ℕ) (a : Bits) (a_row : ℕ) (b : Bits) (b_row : ℕ) (old new : Bits) : Type 0 where
+  pub same_rows : new.rows ≡ old.rows
+  pub same_columns : new.columns ≡ old.columns
+  pub pairs : (r c : ℕ) → IsSet new r c ↔ (IsSet old r c ⊎ ((r ≡ row) × IsSet a a_row c × IsSet b b_row c))

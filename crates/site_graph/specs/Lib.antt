@@ -7,3 +7,4 @@ pub mod Bits
 pub mod BitWords
 pub mod Reached
 pub mod Plans
+pub mod Opened

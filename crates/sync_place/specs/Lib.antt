@@ -1,1 +1,4 @@
 pub mod Placed
+pub mod Demanding
+pub mod Waiting
+pub mod Laws

@@ -1,0 +1,4 @@
+pub mod Demands
+pub mod Waits
+pub mod Placing
+pub mod PlanLaws
