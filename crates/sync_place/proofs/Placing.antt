@@ -31,7 +31,7 @@ one_way_within graph delays site (w, only) = let h = (site_within graph site w.0
 
 -- ---- the waits of a point
 
-waits_from : (first : Bits) (marks : List Bool) (n : ℕ) (rows : List (List ℕ)) (site t : ℕ) → AreWaitRows first marks n rows → Contains (get_or rows t []) site
+pub waits_from : (first : Bits) (marks : List Bool) (n : ℕ) (rows : List (List ℕ)) (site t : ℕ) → AreWaitRows first marks n rows → Contains (get_or rows t []) site
     → (t < n) × IsSet first site t × (get_or marks site false ≡ false)
 waits_from first marks n rows site t a i = ⊎_elim
     (λ l. let row = a.each t (get_or rows t []) (slice_get-get_or rows t [] l) in
@@ -40,13 +40,13 @@ waits_from first marks n rows site t a i = ⊎_elim
     (λ l. absurd (in_nil site (subst (λ xs. Contains xs site) (get_or_past rows t [] l) i)))
     (cases_lt t (length rows))
 
-waits_to : (first : Bits) (marks : List Bool) (n : ℕ) (rows : List (List ℕ)) (site t : ℕ) → AreWaitRows first marks n rows → t < n → site < first.rows → IsSet first site t
+pub waits_to : (first : Bits) (marks : List Bool) (n : ℕ) (rows : List (List ℕ)) (site t : ℕ) → AreWaitRows first marks n rows → t < n → site < first.rows → IsSet first site t
     → get_or marks site false ≡ false → Contains (get_or rows t []) site
 waits_to first marks n rows site t a l h s m =
     let row = a.each t (get_or rows t []) (slice_get-get_or rows t [] (omega (arith, l, a.count))) in
     (row.sites site).1 (h, s, m)
 
-rows_rise : (first : Bits) (marks : List Bool) (n : ℕ) (rows : List (List ℕ)) → AreWaitRows first marks n rows → All (λ row. IsRising ltb row) rows
+pub rows_rise : (first : Bits) (marks : List Bool) (n : ℕ) (rows : List (List ℕ)) → AreWaitRows first marks n rows → All (λ row. IsRising ltb row) rows
 rows_rise first marks n rows a k d l = (a.each k (get_or rows k d) (slice_get-get_or rows k d l)).rising
 
 -- ---- the plans
@@ -71,7 +71,7 @@ placed graph delays first marks waits oneway f m w o = record {
   );
 }
 
-none_marked : (n site : ℕ) (marks : List Bool) → marks ≡ replicate n false → get_or marks site false ≡ false
+pub none_marked : (n site : ℕ) (marks : List Bool) → marks ≡ replicate n false → get_or marks site false ≡ false
 none_marked n site marks e =
     ap (λ xs. get_or xs site false) e
     ∙ ⊎_elim (λ l. get_or-replicate n site false false l) (λ l. get_or_past (replicate n false) site false (omega (arith, length-replicate {A = Bool} n false))) (cases_lt site n)

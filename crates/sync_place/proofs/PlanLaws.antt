@@ -112,7 +112,7 @@ listed : (graph : Graph) (delays : Bits) (plan : Plan) → IsOne graph delays pl
 listed graph delays plan (inl placed) = placed.listed
 listed graph delays plan (inr early) = early.listed
 
-nil_from_none : (xs : List ℕ) → ((x : ℕ) → Contains xs x → ⊥) → xs ≡ []
+pub nil_from_none : (xs : List ℕ) → ((x : ℕ) → Contains xs x → ⊥) → xs ≡ []
 nil_from_none [] h = refl
 nil_from_none (x ∷ xs) h = absurd (h x (in_first x xs))
 

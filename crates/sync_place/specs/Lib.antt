@@ -2,3 +2,4 @@ pub mod Placed
 pub mod Demanding
 pub mod Waiting
 pub mod Laws
+pub mod Plain

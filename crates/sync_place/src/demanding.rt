@@ -48,7 +48,7 @@ fn blocking_sites(alloc: Global, flow: &Flow) -> Result<Vec<Blocking>, OutOfMemo
 }
 
 /// The blocking site that the point accesses, if it does.
-fn blocking_at(flow: &Flow, point: &Point) -> Option<Blocking>
+pub fn blocking_at(flow: &Flow, point: &Point) -> Option<Blocking>
     requires { (number : ℕ) → point.now.kind ≡ PointKind.Access number → IsSiteOf flow.now number }
     ensures { IsBlockingOf flow.now point.now result }
 {

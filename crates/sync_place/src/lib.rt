@@ -7,11 +7,13 @@ ghost use Rattle.sync_place.specs.Demanding.{AreFirst};
 
 pub mod demanding;
 pub mod laws;
+pub mod plain;
 pub mod waiting;
 
 use demanding::demand;
 pub use laws::{plans_are_of_order, plans_are_plans, plans_wait_in_time};
 use pending_flow::pending;
+pub use plain::plain_plan;
 use sc_base::OutOfMemory;
 use site_graph::{BitRows, Flow, Plan};
 use sqlite_items::Items;
