@@ -61,3 +61,6 @@ fn first_demands(alloc: Global, flow: &Flow, delays: &BitRows) -> Result<BitRows
     let first = pending(alloc, flow, &demand)?;
     Ok(first)
 }
+
+#[cfg(test)]
+mod tests;
