@@ -1,2 +1,4 @@
 //! Which accesses of one node must not overlap.
 #![tactic(auto)]
+
+pub mod relations;

@@ -6,3 +6,4 @@ pub mod Searching
 pub mod Firsts
 pub mod Starts
 pub mod Ways
+pub mod InOrder
