@@ -1,6 +1,7 @@
 //! Relations over the same numbers, as rows of bits: their union, one after another, and paths.
 
 ghost use Rattle.std.specs.Prelude.{◌≡◌, ◌<◌, IfOk};
+ghost use Rattle.site_graph.specs.Bits.{AreInOrder};
 ghost use Rattle.delay_sets.specs.Relations.{IsUnion, IsClosed, IsComposed, IsStep, IsWithRow};
 
 use sc_base::OutOfMemory;
@@ -64,7 +65,8 @@ fn compose_row(rows: &mut BitRows, row: u32, first: &BitRows, second: &BitRows)
     requires columns { rows.old.columns ≡ second.now.columns }
     requires row { row < rows.old.rows }
     requires first { row < first.now.rows }
-    ensures { IsWithRow row first.now second.now rows.old rows.new }
+    ensures joined { IsWithRow row first.now second.now rows.old rows.new }
+    ensures in_order { AreInOrder second.now }
 {
     for inner in 0..second.rows() {
         if first.get(row, inner) {
