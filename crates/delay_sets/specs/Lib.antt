@@ -1,2 +1,3 @@
 pub mod Delays
 pub mod Relations
+pub mod Preceding

@@ -1,4 +1,5 @@
 //! Which accesses of one node must not overlap.
 #![tactic(auto)]
 
+pub mod preceding;
 pub mod relations;

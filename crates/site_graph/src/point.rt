@@ -1,5 +1,8 @@
 //! The points of a flow.
 
+ghost use Rattle.std.specs.Prelude.{◌≡◌};
+ghost use Rattle.site_graph.specs.Graph as graph;
+
 use crate::site::SiteList;
 use sqlite_items::Items;
 
@@ -24,6 +27,15 @@ pub enum PointKind {
     Call,
     /// A `return`, or the end of a body.
     Return,
+}
+
+impl PointKind {
+    /// Whether the nodes wait there for each other.
+    pub fn is_barrier(self) -> bool
+        ensures { result ≡ graph.is_barrier self }
+    {
+        matches!(self, PointKind::Barrier | PointKind::StoreSync)
+    }
 }
 
 /// Numbers of locals, counted from 0 in their function, and the node mark; seen as a list.
