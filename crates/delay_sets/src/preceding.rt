@@ -18,13 +18,12 @@ pub fn preceding(alloc: Global, flow: &Flow) -> Result<BitRows, OutOfMemory>
 {
     let firsts = first_edges(alloc, flow)?;
     let barriers = barriers(alloc, flow)?;
-    let sites = flow.sites.as_slice();
-    let count = sites.len() as u32 + 1;
+    let count = flow.sites.as_slice().len() as u32 + 1;
     let mut rows = BitRows::new(alloc, count, count)?;
     for (at, point) in flow.points.as_slice().iter().enumerate() {
         if let PointKind::Access(number) = point.kind {
-            let site = &sites[number as usize - 1];
-            let over = over_at(alloc, flow, &firsts, site, at as u32, &barriers)?;
+            let site = flow.site(number);
+            let over = over_at(alloc, flow, &firsts, &site, at as u32, &barriers)?;
             add_sites(flow, &over, number, &mut rows);
         }
     }
@@ -78,7 +77,7 @@ fn syncs_in(alloc: Global, flow: &Flow, reached: &BitRows) -> Result<Vec<u32>, O
 {
     let mut syncs = Vec::new(alloc);
     for (at, point) in flow.points.as_slice().iter().enumerate() {
-        if point.kind == PointKind::Sync && reached.get(0, at as u32) {
+        if point.kind.is_sync() && reached.get(0, at as u32) {
             let Ok(()) = syncs.push(at as u32) else {
                 return Err(OutOfMemory);
             };

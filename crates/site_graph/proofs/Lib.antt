@@ -7,3 +7,4 @@ pub mod Firsts
 pub mod Starts
 pub mod Ways
 pub mod InOrder
+pub mod PointKinds

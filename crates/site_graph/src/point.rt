@@ -2,6 +2,7 @@
 
 ghost use Rattle.std.specs.Prelude.{◌≡◌};
 ghost use Rattle.site_graph.specs.Graph as graph;
+ghost use Rattle.site_graph.specs.Order as order;
 
 use crate::site::SiteList;
 use sqlite_items::Items;
@@ -35,6 +36,13 @@ impl PointKind {
         ensures { result ≡ graph.is_barrier self }
     {
         matches!(self, PointKind::Barrier | PointKind::StoreSync)
+    }
+
+    /// Whether it is `sync()`.
+    pub fn is_sync(self) -> bool
+        ensures { result ≡ order.is_sync self }
+    {
+        matches!(self, PointKind::Sync)
     }
 }
 
