@@ -1,9 +1,8 @@
 -- Which access is over before another, by searches for the points of the flow one after another.
-use Rattle.std.proofs.Common.{◌≡◌, ◌⊎◌, ◌↔◌, ℕ, ◌+◌, ◌<◌, ◌≤◌, List, [], ◌∷◌, ◌++◌, Bool, true, false, Some, Result, Ok, Err, IfOk, length, get_or, refl, sym, ap, ◌∙◌, subst, inl, inr, ⊎_elim, arith}
+use Rattle.std.proofs.Common.{◌≡◌, ℕ, ◌+◌, ◌<◌, ◌≤◌, List, [], ◌∷◌, ◌++◌, true, false, Some, Result, Ok, Err, IfOk, length, get_or, refl, sym, ap, ◌∙◌, subst, inl, inr, ⊎_elim, arith}
 use Rattle.std.specs.List.{All, Contains}
-use Rattle.std.proofs.lemmas.Bool.{cases_eq, cases_lt, cases_Bool, both_ways, false_from_ne_true}
+use Rattle.std.proofs.lemmas.Bool.{cases_eq, cases_lt, both_ways, false_from_ne_true}
 use Rattle.std.proofs.lemmas.List.Elements.{Contains-get_or, Contains-append_left, Contains-push, Contains-push_cases}
-use Rattle.effect_order.specs.Flow.{LeadsBy}
 use Rattle.site_graph.specs.declared.point.PointKind.{PointKind}
 use Rattle.site_graph.specs.declared.point.PointKind.TheVariants.{Start, Plain, Access, Sync, Barrier, StoreSync, Call, Return}
 use Rattle.sc_base.specs.declared.value.CopyMode.TheVariants.{Blocking}
@@ -19,7 +18,6 @@ use Rattle.site_graph.specs.Ways.{Goes, Path, Clear, IsOverBefore, Precedes}
 use Rattle.site_graph.proofs.Members.{in_nil}
 use Rattle.site_graph.proofs.Starts.{none_of, as_bits, leads_as}
 use Rattle.site_graph.proofs.PointKinds.{kind_past}
-use Rattle.delay_sets.specs.Relations.{HasPairs}
 use Rattle.delay_sets.specs.Preceding.{AreBarriers, AreSyncsIn, IsSiteIn, IsWithSites}
 
 -- ---- barriers, point after point
@@ -90,7 +88,8 @@ sync_left graph reached at syncs none h s = (
 pub site_set : (graph : Graph) (over old now new : Bits) (row at number : ℕ) → IsAt graph number at → IsSet over 0 at → IsWithSites graph over row at old now
     → IsWith row number now new → IsWithSites graph over row (at + 1) old new
 site_set graph over old now new row at number is here (a, b, f) w = (
-  w.same_rows ∙ a, w.same_columns ∙ b,
+  w.same_rows ∙ a,
+  w.same_columns ∙ b,
   λ r c. (
     (λ s. ⊎_elim (λ o. ⊎_elim inl (λ (e, (u, l, k, t)). inr (e, (u, omega (arith, l), k, t))) ((f r c).0 o))
         (λ (e, g). inr (e, (at, omega arith, subst (λ x. IsAt graph x at) (sym g) is, here))) ((w.pairs r c).0 s)),
@@ -104,7 +103,8 @@ site_set graph over old now new row at number is here (a, b, f) w = (
 pub site_left : (graph : Graph) (over old now : Bits) (row at : ℕ) → ((number : ℕ) → IsAt graph number at → IsSet over 0 at → ⊥) → IsWithSites graph over row at old now
     → IsWithSites graph over row (at + 1) old now
 site_left graph over old now row at none (a, b, f) = (
-  a, b,
+  a,
+  b,
   λ r c. (
     (λ s. ⊎_elim inl (λ (e, (u, l, k, t)). inr (e, (u, omega (arith, l), k, t))) ((f r c).0 s)),
     (λ s. ⊎_elim (λ o. (f r c).1 (inl o))
@@ -228,10 +228,12 @@ access_passed graph site over old new at number n kept is here l f p (a, b, g) =
         (λ (e, (u, m, at_u, t)).
         let row = kept.access_within at number is in
         let column = kept.access_within u c at_u in
-        let (x, y, over_u) = (f.pairs 0 u).0 t in
-        (omega (arith, e, row.1), omega (arith, column.1),
-        subst (λ z. PrecedesBelow graph (at + 1) z c) (sym e)
-        (at, omega arith, is, record { site = site; is_site = here; from = at; is_from = is; to = u; is_to = at_u; over = over_u })))
+        let (x, y, over_u) = (f.pairs 0 u).0 t in (
+          omega (arith, e, row.1),
+          omega (arith, column.1),
+          subst (λ z. PrecedesBelow graph (at + 1) z c) (sym e)
+              (at, omega arith, is, record { site = site; is_site = here; from = at; is_from = is; to = u; is_to = at_u; over = over_u }),
+        ))
         ((g r c).0 s)),
     (λ (h, k, (t, m, at_t, q)). ⊎_elim
         (λ e. let same : Access r ≡ Access number = sym at_t ∙ (ap (kind_at graph) e ∙ is) in
@@ -245,12 +247,20 @@ access_passed graph site over old new at number n kept is here l f p (a, b, g) =
     pair {r} {c} one q =
         let from : q.from ≡ at = kept.one_point number q.from at (subst (λ z. IsAt graph z q.from) one q.is_from) is in
         let same : q.site ≡ site = some_same (sym q.is_site ∙ (ap (site_at graph) one ∙ here)) in
-        let within : q.to < length graph.points = point_of q.to c q.is_to in
-        (q.to, omega (arith, within, l), q.is_to, (f.pairs 0 q.to).1 (omega arith, within,
-        subst (λ t. IsOverBefore graph site t q.to) from (subst (λ s. IsOverBefore graph s q.from q.to) same q.over)))
+        let within : q.to < length graph.points = point_of q.to c q.is_to in (
+          q.to,
+          omega (arith, within, l),
+          q.is_to,
+          (f.pairs 0 q.to).1 (
+            omega arith,
+            within,
+            subst (λ t. IsOverBefore graph site t q.to) from (subst (λ s. IsOverBefore graph s q.from q.to) same q.over),
+          ),
+        )
       where
         some_same : {x y : Site} → Some x ≡ Some y → x ≡ y
         some_same e = cc
+
         point_of : (t c : ℕ) → IsAt graph c t → t < length graph.points
         point_of t c is = ⊎_elim (λ l. l) (λ l. absurd (let plain = kind_past graph t l in cc)) (cases_lt t (length graph.points))
 

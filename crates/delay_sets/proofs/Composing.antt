@@ -1,7 +1,7 @@
 -- One relation after another, row by row, and in a row number by number.
-use Rattle.std.proofs.Common.{◌≡◌, ◌⊎◌, ◌↔◌, ℕ, ◌+◌, ◌<◌, ◌≤◌, refl, sym, ◌∙◌, subst, inl, inr, ⊎_elim, arith}
+use Rattle.std.proofs.Common.{◌≡◌, ◌⊎◌, ℕ, ◌+◌, ◌<◌, ◌≤◌, sym, ◌∙◌, subst, inl, inr, ⊎_elim, arith}
 use Rattle.std.proofs.lemmas.Bool.{cases_eq}
-use Rattle.site_graph.specs.Bits.{Bits, IsSet, IsOf, AreInOrder, IsWithCommon, no_bits}
+use Rattle.site_graph.specs.Bits.{Bits, IsSet, IsOf, AreInOrder, IsWithCommon}
 use Rattle.delay_sets.specs.Relations.{HasPairs, IsUnion, Joins, IsComposed, IsWithRow}
 
 -- ---- a union, row by row
@@ -9,7 +9,8 @@ use Rattle.delay_sets.specs.Relations.{HasPairs, IsUnion, Joins, IsComposed, IsW
 pub united_more : (row : ℕ) (old more now new : Bits) → HasPairs old (λ r c. IsSet old r c ⊎ ((r < row) × IsSet more r c)) now
     → IsWithCommon row more row more row now new → HasPairs old (λ r c. IsSet old r c ⊎ ((r < row + 1) × IsSet more r c)) new
 united_more row old more now new (a, b, f) w = (
-  w.same_rows ∙ a, w.same_columns ∙ b,
+  w.same_rows ∙ a,
+  w.same_columns ∙ b,
   λ r c. (
     (λ s. ⊎_elim (λ o. ⊎_elim inl (λ (l, m). inr (omega (arith, l), m)) ((f r c).0 o))
         (λ (e, m, again). inr (omega (arith, e), subst (λ x. IsSet more x c) (sym e) m)) ((w.pairs r c).0 s)),
@@ -22,7 +23,8 @@ united_more row old more now new (a, b, f) w = (
 pub united_all : (n : ℕ) (old more new : Bits) → AreInOrder more → n ≡ more.rows → HasPairs old (λ r c. IsSet old r c ⊎ ((r < n) × IsSet more r c)) new
     → IsUnion old more new
 united_all n old more new o e (a, b, f) = (
-  a, b,
+  a,
+  b,
   λ r c. (
     (λ s. ⊎_elim inl (λ (l, m). inr m) ((f r c).0 s)),
     (λ s. (f r c).1 (⊎_elim inl (λ m. inr (omega (arith, (o.within r c m).0, e), m)) s)),
@@ -40,7 +42,8 @@ RowBelow row first second count old new = HasPairs old (λ r c. IsSet old r c �
 pub row_joined : (row inner : ℕ) (first second old now new : Bits) → RowBelow row first second inner old now → IsSet first row inner
     → IsWithCommon row second inner second inner now new → RowBelow row first second (inner + 1) old new
 row_joined row inner first second old now new (a, b, f) is w = (
-  w.same_rows ∙ a, w.same_columns ∙ b,
+  w.same_rows ∙ a,
+  w.same_columns ∙ b,
   λ r c. (
     (λ s. ⊎_elim (λ o. ⊎_elim inl (λ (e, (k, l, x, y)). inr (e, (k, omega (arith, l), x, y))) ((f r c).0 o))
         (λ (e, y, again). inr (e, (inner, omega arith, subst (λ x. IsSet first x inner) (sym e) is, y))) ((w.pairs r c).0 s)),
@@ -53,7 +56,8 @@ row_joined row inner first second old now new (a, b, f) is w = (
 pub row_left : (row inner : ℕ) (first second old now : Bits) → RowBelow row first second inner old now → (IsSet first row inner → ⊥)
     → RowBelow row first second (inner + 1) old now
 row_left row inner first second old now (a, b, f) none = (
-  a, b,
+  a,
+  b,
   λ r c. (
     (λ s. ⊎_elim inl (λ (e, (k, l, x, y)). inr (e, (k, omega (arith, l), x, y))) ((f r c).0 s)),
     (λ s. ⊎_elim (λ o. (f r c).1 (inl o))
@@ -65,7 +69,8 @@ row_left row inner first second old now (a, b, f) none = (
 pub row_all : (row n : ℕ) (first second old new : Bits) → AreInOrder second → n ≡ second.rows → RowBelow row first second n old new
     → IsWithRow row first second old new
 row_all row n first second old new o e (a, b, f) = (
-  a, b,
+  a,
+  b,
   λ r c. (
     (λ s. ⊎_elim inl (λ (q, (k, l, x, y)). inr (q, (k, x, y))) ((f r c).0 s)),
     (λ s. (f r c).1 (⊎_elim inl (λ (q, (k, x, y)). inr (q, (k, omega (arith, (o.within k c y).0, e), x, y))) s)),

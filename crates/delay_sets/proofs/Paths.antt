@@ -1,7 +1,7 @@
 -- Paths by their inner numbers, after Warshall (1962): those below the next number are those below this one, or go to it
 -- and from it.
-use Rattle.std.proofs.Common.{◌≡◌, ◌⊎◌, ◌↔◌, ℕ, ◌+◌, ◌<◌, ◌≤◌, List, [], ◌∷◌, ◌++◌, refl, sym, ap, ◌∙◌, subst, inl, inr, ⊎_elim, arith}
-use Rattle.std.proofs.lemmas.Bool.{cases_eq, cases_lt}
+use Rattle.std.proofs.Common.{◌≡◌, ◌⊎◌, ℕ, ◌+◌, ◌<◌, List, [], ◌∷◌, ◌++◌, refl, sym, ◌∙◌, subst, inl, inr, ⊎_elim, arith}
+use Rattle.std.proofs.lemmas.Bool.{cases_eq}
 use Rattle.effect_order.specs.Flow.{PathBy, LeadsBy}
 use Rattle.site_graph.specs.Bits.{Bits, IsSet, AreInOrder, IsJoined}
 use Rattle.delay_sets.specs.Relations.{HasPairs, IsClosed, IsStep}
@@ -70,7 +70,8 @@ closed_none old = (refl, refl, λ r c. (λ s. ([], s), λ p. none_inner (IsSet o
 
 pub closed_more : (old now new : Bits) (inner : ℕ) → ClosedBelow old inner now → IsStep inner now new → ClosedBelow old (inner + 1) new
 closed_more old now new inner (a, b, f) (d, e, g) = (
-  d ∙ a, e ∙ b,
+  d ∙ a,
+  e ∙ b,
   λ r c. (
     (λ s. step_to (IsSet old) inner r c (⊎_elim (λ t. inl ((f r c).0 t)) (λ (t, u). inr ((f r inner).0 t, (f inner c).0 u)) ((g r c).0 s))),
     (λ p. (g r c).1 (⊎_elim (λ t. inl ((f r c).1 t)) (λ (t, u). inr ((f r inner).1 t, (f inner c).1 u)) (step_from (IsSet old) inner r c p))),
@@ -79,7 +80,8 @@ closed_more old now new inner (a, b, f) (d, e, g) = (
 
 pub closed_all : (old new : Bits) (n : ℕ) → ((r c : ℕ) → IsSet old r c → r < n) → ClosedBelow old n new → IsClosed old new
 closed_all old new n within (a, b, f) = (
-  a, b,
+  a,
+  b,
   λ r c. (
     (λ s. let (xs, p) = (f r c).0 s in (xs, any_inner (IsSet old) n r xs c p)),
     (λ (xs, p). (f r c).1 (xs, all_inner (IsSet old) n within r xs c p)),
@@ -104,7 +106,8 @@ same_inner inner row c old now (a, b, f) s = ⊎_elim (λ o. o) (λ (l, g). g.1)
 pub stepped_joined : (inner row : ℕ) (old now new : Bits) → SteppedBelow inner row old now → IsSet now row inner → IsJoined row inner now new
     → SteppedBelow inner (row + 1) old new
 stepped_joined inner row old now new h is j = (
-  j.same_rows ∙ h.0, j.same_columns ∙ h.1,
+  j.same_rows ∙ h.0,
+  j.same_columns ∙ h.1,
   λ r c. (
     (λ s. ⊎_elim (λ o. ⊎_elim inl (λ (l, g). inr (omega (arith, l), g)) ((h.2 r c).0 o))
         (λ (e, t). inr (omega (arith, e), (subst (λ x. IsSet old x inner) (sym e) at_row, same_inner inner row c old now h t))) ((j.pairs r c).0 s)),
@@ -118,7 +121,8 @@ stepped_joined inner row old now new h is j = (
 
 pub stepped_left : (inner row : ℕ) (old now : Bits) → SteppedBelow inner row old now → (IsSet now row inner → ⊥) → SteppedBelow inner (row + 1) old now
 stepped_left inner row old now h none = (
-  h.0, h.1,
+  h.0,
+  h.1,
   λ r c. (
     (λ s. ⊎_elim inl (λ (l, g). inr (omega (arith, l), g)) ((h.2 r c).0 s)),
     (λ s. ⊎_elim (λ o. (h.2 r c).1 (inl o))
@@ -128,7 +132,8 @@ stepped_left inner row old now h none = (
 
 pub stepped_all : (inner n : ℕ) (old new : Bits) → AreInOrder old → n ≡ old.rows → SteppedBelow inner n old new → IsStep inner old new
 stepped_all inner n old new o e h = (
-  h.0, h.1,
+  h.0,
+  h.1,
   λ r c. (
     (λ s. ⊎_elim inl (λ (l, g). inr g) ((h.2 r c).0 s)),
     (λ s. (h.2 r c).1 (⊎_elim inl (λ g. inr (omega (arith, (o.within r inner g.0).0, e), g)) s)),

@@ -1,5 +1,5 @@
 -- Relations as rows of bits: joined, one after another, and the paths along one.
-use Rattle.std.specs.Prelude.{◌≡◌, ◌⊎◌, ◌↔◌, ℕ, ◌<◌}
+use Rattle.std.specs.Prelude.{◌≡◌, ◌⊎◌, ◌↔◌, ℕ}
 use Rattle.effect_order.specs.Flow.{LeadsBy}
 use Rattle.site_graph.specs.Bits.{Bits, IsSet, IsOf}
 

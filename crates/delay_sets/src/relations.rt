@@ -12,7 +12,8 @@ use std::alloc::Global;
 pub fn unite(rows: &mut BitRows, more: &BitRows)
     requires same_rows { more.now.rows ≡ rows.old.rows }
     requires same_columns { more.now.columns ≡ rows.old.columns }
-    ensures { IsUnion rows.old more.now rows.new }
+    ensures united { IsUnion rows.old more.now rows.new }
+    ensures in_order { AreInOrder more.now }
 {
     for row in 0..more.rows() {
         rows.add_common(row, more, row, more, row);
@@ -44,11 +45,7 @@ fn step(rows: &mut BitRows, inner: u32)
 }
 
 /// The pairs that a pair of `first` and one of `second` behind it join.
-pub fn composed(
-    alloc: Global,
-    first: &BitRows,
-    second: &BitRows,
-) -> Result<BitRows, OutOfMemory>
+pub fn composed(alloc: Global, first: &BitRows, second: &BitRows) -> Result<BitRows, OutOfMemory>
     requires { first.now.columns ≡ second.now.rows }
     ensures { IfOk result (IsComposed first.now second.now) }
 {

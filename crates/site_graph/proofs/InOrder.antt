@@ -1,5 +1,5 @@
 -- The set pairs of rows of bits stand in order, each once, and within the sizes.
-use Rattle.std.proofs.Common.{◌≡◌, ℕ, zero, suc, ◌+◌, ◌<◌, ◌≤◌, List, [], ◌∷◌, ◌++◌, Bool, map, length, refl, sym, ap, ◌∙◌, subst, ⊎_elim, IsTrue, ◌==◌, ◌&&◌, ◌||◌, ltb, arith}
+use Rattle.std.proofs.Common.{◌≡◌, ℕ, zero, suc, ◌+◌, ◌<◌, List, [], ◌∷◌, ◌++◌, map, refl, ap, subst, ⊎_elim, IsTrue, ◌==◌, ◌&&◌, ltb, arith}
 use Rattle.std.specs.List.{All, AllPairs, Contains, filter, flat_map, range_with_len}
 use Rattle.std.proofs.lemmas.Bool.{or_left, or_right, and_from, eq-eqb, lt-ltb}
 use Rattle.std.proofs.lemmas.List.Elements.{Contains-get_or, Contains-append_cases}

@@ -121,7 +121,7 @@ search_ends graph stops row From found todo kept e s = record {
   same_columns = s.columns;
   pairs = λ r t. (
     (λ h. let (zero_row, (a, from, way)) = s.sound r t h in
-    (omega (arith, zero_row), reached_within graph kept stops row a t way, (a, from, way))),
+        (omega (arith, zero_row), reached_within graph kept stops row a t way, (a, from, way))),
     (λ (h, k, (a, from, (zs, path))). let zero_row : r ≡ 0 = omega arith in
         subst (λ x. IsSet found x t) (sym zero_row)
         (all_set (Goes graph) (λ z. IsSet stops row z → ⊥) (IsSet found 0)
@@ -143,7 +143,7 @@ one_of graph stops row start bits b = record {
   same_columns = b.same_columns;
   pairs = λ r t. (
     (λ h. let (n, k, (a, is, way)) = (b.pairs r t).0 h in
-    (n, k, ⊎_elim (λ e. subst (λ x. ReachesBy graph stops row x t) (sym e) way) (λ i. absurd (in_nil a i)) (in_cons start a [] is))),
+        (n, k, ⊎_elim (λ e. subst (λ x. ReachesBy graph stops row x t) (sym e) way) (λ i. absurd (in_nil a i)) (in_cons start a [] is))),
     (λ (n, k, way). (b.pairs r t).1 (n, k, (start, in_first start [], way))),
   );
 }

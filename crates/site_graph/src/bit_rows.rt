@@ -54,7 +54,8 @@ impl BitRows {
 
     /// How many columns there are.
     pub fn columns(&self) -> u32
-        ensures { result ≡ self.now.columns }
+        ensures columns { result ≡ self.now.columns }
+        ensures in_order { AreInOrder self.now }
     {
         self.columns
     }

@@ -1,9 +1,5 @@
-use Rattle.std.proofs.Common.{◌≡◌, ◌∙◌, List, length, ap, subst, sym, arith, ◌+◌}
-use Rattle.std.proofs.lemmas.Bool.{both_ways}
-use Rattle.site_graph.specs.declared.point.Point.{Point}
-use Rattle.site_graph.specs.Graph.{Graph, is_barrier}
-use Rattle.site_graph.specs.Kept.{IsFlow}
-use Rattle.delay_sets.proofs.Before.{blocking_answer, split_answer, none_answer, points_of}
+use Rattle.std.proofs.Common.{◌∙◌, sym}
+use Rattle.delay_sets.proofs.Before.{blocking_answer, split_answer, points_of}
 use Rattle.delay_sets.proofs.preceding.over_at.Goals as goal
 
 pub returns-then-is_blocking : goal.returns-then-is_blocking

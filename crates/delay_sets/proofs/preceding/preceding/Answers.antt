@@ -1,7 +1,6 @@
-use Rattle.std.proofs.Common.{◌≡◌, ◌∙◌, List, length, ap, subst, sym, arith, ◌+◌}
-use Rattle.std.proofs.lemmas.Bool.{both_ways}
+use Rattle.std.proofs.Common.{◌∙◌, List, length, ap, subst, sym, arith, ◌+◌}
 use Rattle.site_graph.specs.declared.point.Point.{Point}
-use Rattle.site_graph.specs.Graph.{Graph, is_barrier}
+use Rattle.site_graph.specs.Graph.{Graph}
 use Rattle.site_graph.specs.Kept.{IsFlow}
 use Rattle.site_graph.proofs.PointKinds.{kind_of}
 use Rattle.delay_sets.proofs.Before.{AreBelow, point_passed, access_passed, all_passed}

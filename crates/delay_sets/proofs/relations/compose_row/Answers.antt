@@ -7,10 +7,10 @@ use Rattle.delay_sets.proofs.relations.compose_row.Goals as goal
 pub loop-inner-preserved : goal.loop-inner-preserved
 loop-inner-preserved c =
     elim c.if-get.branch [
-      then-get w ↦ subst (RowBelow c.args.row c.args.first.now c.args.second.now (c.loop-inner.inner + 1) c.args.rows.now) (sym w.rows-is)
+      | then-get w ↦ subst (RowBelow c.args.row c.args.first.now c.args.second.now (c.loop-inner.inner + 1) c.args.rows.now) (sym w.rows-is)
           (row_joined c.args.row c.loop-inner.inner c.args.first.now c.args.second.now c.args.rows.now c.loop-inner.rows _ c.loop-inner.invariant
           (c.get.ensures.0 w.if-get.true) w.add_common.ensures)
-    | else-get w ↦ subst (RowBelow c.args.row c.args.first.now c.args.second.now (c.loop-inner.inner + 1) c.args.rows.now) (sym w.rows-is)
+      | else-get w ↦ subst (RowBelow c.args.row c.args.first.now c.args.second.now (c.loop-inner.inner + 1) c.args.rows.now) (sym w.rows-is)
           (row_left c.args.row c.loop-inner.inner c.args.first.now c.args.second.now c.args.rows.now c.loop-inner.rows c.loop-inner.invariant
           (λ s. both_ways _ w.if-get.false (c.get.ensures.1 s)))
     ]

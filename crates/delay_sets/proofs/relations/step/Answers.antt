@@ -7,9 +7,9 @@ use Rattle.delay_sets.proofs.relations.step.Goals as goal
 pub loop-row-preserved : goal.loop-row-preserved
 loop-row-preserved c =
     elim c.if-get.branch [
-      then-get w ↦ subst (SteppedBelow c.args.inner (c.loop-row.row + 1) c.args.rows.now) (sym w.rows-is)
+      | then-get w ↦ subst (SteppedBelow c.args.inner (c.loop-row.row + 1) c.args.rows.now) (sym w.rows-is)
           (stepped_joined c.args.inner c.loop-row.row c.args.rows.now c.loop-row.rows _ c.loop-row.invariant (c.get.ensures.0 w.if-get.true) w.join.ensures.joined)
-    | else-get w ↦ subst (SteppedBelow c.args.inner (c.loop-row.row + 1) c.args.rows.now) (sym w.rows-is)
+      | else-get w ↦ subst (SteppedBelow c.args.inner (c.loop-row.row + 1) c.args.rows.now) (sym w.rows-is)
           (stepped_left c.args.inner c.loop-row.row c.args.rows.now c.loop-row.rows c.loop-row.invariant (λ s. both_ways _ w.if-get.false (c.get.ensures.1 s)))
     ]
 
