@@ -35,11 +35,16 @@ module _ (graph : Graph) (cross own : Bits) where
   AreDelays delays = IsOf (length graph.sites + 1) (length graph.sites + 1) MustDelay delays
 
   -- the conflicts of the points at which sites are
-  abbrev pub AtSites : Bits → (t u : ℕ) → Type 0
-  AtSites bits t u = (a b : ℕ) × IsAt graph a t × IsAt graph b u × IsSet bits a b
+  abbrev pub AtSites : (ℕ → ℕ → Type 0) → (t u : ℕ) → Type 0
+  AtSites R t u = (a b : ℕ) × IsAt graph a t × IsAt graph b u × R a b
 
-  -- the delays are those of the laws of the order, between the points of the sites
-  abbrev pub DelaysAreOfOrder : Type 0
-  DelaysAreOfOrder =
-      IsFlow graph → (a b t u : ℕ) → IsAt graph a t → IsAt graph b u
-      → MustDelay a b ↔ Delay (order_flow graph (AtSites own) (AtSites cross) (λ t u. Unit {0})) t u
+  -- the points of two sites that do not meet are left out
+  abbrev pub MeetAt : Bits → (t u : ℕ) → Type 0
+  MeetAt meets t u = (a b : ℕ) → IsAt graph a t → IsAt graph b u → IsSet meets a b
+
+  -- the delays are those of the laws of the order, where the conflicts of two nodes are those of them whose sites meet
+  abbrev pub DelaysAreOfOrder : (Across : ℕ → ℕ → Type 0) → (meets : Bits) → Type 0
+  DelaysAreOfOrder Across meets =
+      IsFlow graph → ((a b : ℕ) → IsSet cross a b ↔ (Across a b × IsSet meets a b))
+      → (a b t u : ℕ) → IsAt graph a t → IsAt graph b u
+      → MustDelay a b ↔ Delay (order_flow graph (AtSites (IsSet own)) (AtSites Across) (MeetAt meets)) t u

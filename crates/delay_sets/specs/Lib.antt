@@ -1,1 +1,4 @@
 pub mod Delays
+pub mod Relations
+pub mod Preceding
+pub mod Backing

@@ -7,3 +7,5 @@ pub mod Firsts
 pub mod Starts
 pub mod Ways
 pub mod MadeLaws
+pub mod InOrder
+pub mod PointKinds

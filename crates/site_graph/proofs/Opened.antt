@@ -4,10 +4,12 @@ use Rattle.std.specs.List.{Contains, slice_get}
 use Rattle.std.proofs.lemmas.Option.{slice_get-get_or, get_or_from_slice_get}
 use Rattle.std.proofs.lemmas.Bool.{or_cases, or_left, or_right, and_parts, and_from, eqb-true, eq-eqb, cases_eq, cases_Bool, both_ways, false_from_ne_true}
 use Rattle.std.proofs.lemmas.List.{length_push}
-use Rattle.std.proofs.lemmas.List.Elements.{Contains-append_left, Contains-push, Contains-push_cases}
+use Rattle.std.proofs.lemmas.List.Elements.{Contains-get_or, Contains-append_left, Contains-push, Contains-push_cases}
 use Rattle.site_graph.specs.declared.flow.Edge.{Edge}
 use Rattle.site_graph.specs.Bits.{Bits, IsSet, IsWith}
-use Rattle.site_graph.specs.Opened.{IsTarget, has, unset, IsOpened}
+use Rattle.site_graph.specs.Graph.{Graph}
+use Rattle.site_graph.specs.Ways.{Goes}
+use Rattle.site_graph.specs.Opened.{IsTarget, IsBegunBefore, has, unset, IsOpened}
 use Rattle.site_graph.proofs.Members.{in_nil, in_first, in_later, in_cons}
 
 -- ---- whether a pair is in a list
@@ -129,3 +131,22 @@ more_opened edges from i p d a b c xs ys zs l h s f g =
     (λ q. inl (k, e, m, omega arith, at, is)) (cases_eq k i))
     (λ t (k, e, m, n, at, is). (k, e, m, omega arith, at, is))
     (λ t q. (i, get_or edges i d, l, omega arith, some, sym s ∙ sym q))
+
+-- ---- the points to which edges lead from a list of starts
+
+pub more_begun : (graph : Graph) (starts : List ℕ) (i p : ℕ) (a b c : Bits) (xs ys zs : List ℕ) → slice_get starts i ≡ Some p
+    → IsOpened (IsBegunBefore graph starts i) a b xs ys → IsOpened (Goes graph p) b c ys zs → IsOpened (IsBegunBefore graph starts (i + 1)) a c xs zs
+more_begun graph starts i p a b c xs ys zs at f g =
+    then_opened (IsBegunBefore graph starts i) (Goes graph p) (IsBegunBefore graph starts (i + 1)) a b c xs ys zs f g
+    (λ t (k, q, n, is, e). ⊎_elim
+    (λ same. inr (subst (λ x. Goes graph x t) (let one : q ≡ p = cc in one) e))
+    (λ other. inl (k, q, omega arith, is, e)) (cases_eq k i))
+    (λ t (k, q, n, is, e). (k, q, omega arith, is, e))
+    (λ t e. (i, p, omega arith, at, e))
+
+pub begun_all : (graph : Graph) (starts : List ℕ) (a b : Bits) (xs ys : List ℕ) → IsOpened (IsBegunBefore graph starts (length starts)) a b xs ys
+    → IsOpened (λ t. (p : ℕ) × Contains starts p × Goes graph p t) a b xs ys
+begun_all graph starts a b xs ys f =
+    as_opened (IsBegunBefore graph starts (length starts)) (λ t. (p : ℕ) × Contains starts p × Goes graph p t) a b xs ys f
+    (λ t (p, (k, n, is), e). (k, p, n, subst (λ x. slice_get starts k ≡ Some x) is (slice_get-get_or starts k p n), e))
+    (λ t (k, p, n, is, e). (p, subst (Contains starts) (get_or_from_slice_get starts k p p is) (Contains-get_or starts k p n), e))

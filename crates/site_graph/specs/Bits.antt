@@ -1,13 +1,23 @@
 -- A relation between the numbers below two sizes, as the list of its pairs.
-use Rattle.std.specs.Prelude.{◌≡◌, ◌⊎◌, ◌↔◌, ℕ, ◌<◌, List, [], Contains}
+use Rattle.std.specs.Prelude.{◌≡◌, ◌⊎◌, ◌↔◌, ℕ, ◌<◌, List, [], Bool, ◌==◌, ◌&&◌, ◌||◌, ltb, Contains}
+use Rattle.site_graph.specs.Rising.{IsRising}
 
 pub record Bits : Type 0 where
   pub rows : ℕ
   pub columns : ℕ
-  pub set : List (ℕ × ℕ)  -- by row and then by column
+  pub set : List (ℕ × ℕ)
+
+-- by row, and then by column
+abbrev pub pair_before : ℕ × ℕ → ℕ × ℕ → Bool
+pair_before p q = ltb p.0 q.0 || ((p.0 == q.0) && ltb p.1 q.1)
 
 abbrev pub IsSet : Bits → (row column : ℕ) → Type 0
 IsSet bits row column = Contains bits.set (row, column)
+
+-- What all rows of bits keep: the pairs stand in order, each once, and within the sizes.
+pub record AreInOrder (bits : Bits) : Type 0 where
+  pub rise : IsRising pair_before bits.set
+  pub within : (row column : ℕ) → IsSet bits row column → (row < bits.rows) × (column < bits.columns)
 
 -- without a pair
 abbrev pub no_bits : (rows columns : ℕ) → Bits

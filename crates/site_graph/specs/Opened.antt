@@ -2,11 +2,17 @@
 use Rattle.std.specs.Prelude.{◌≡◌, ◌⊎◌, ◌↔◌, ℕ, zero, suc, ◌+◌, ◌<◌, ◌≤◌, List, [], ◌∷◌, Bool, false, ◌==◌, ◌&&◌, ◌||◌, Some, length, slice_get, Contains, if◌then◌else◌}
 use Rattle.site_graph.specs.declared.flow.Edge.{Edge}
 use Rattle.site_graph.specs.Bits.{Bits, IsSet}
+use Rattle.site_graph.specs.Graph.{Graph}
+use Rattle.site_graph.specs.Ways.{Goes}
 
 -- one of the edges from number `from` to below number `to` leads to the point
 abbrev pub IsTarget : List Edge → (from to : ℕ) → (point : ℕ) → Type 0
 IsTarget edges from to t =
     (k : ℕ) × (e : Edge) × (from ≤ k) × (k < to) × (slice_get edges k ≡ Some e) × (e.to ≡ t)
+
+-- an edge leads to the point from one of the first `count` starts
+abbrev pub IsBegunBefore : Graph → (starts : List ℕ) → (count : ℕ) → (point : ℕ) → Type 0
+IsBegunBefore graph starts count t = (k a : ℕ) × (k < count) × (slice_get starts k ≡ Some a) × Goes graph a t
 
 -- whether the pair is in the list
 abbrev pub has : List (ℕ × ℕ) → (row column : ℕ) → Bool

@@ -1,5 +1,5 @@
 -- Which points are reached from which, by paths whose inner points do not stop.
-use Rattle.std.specs.Prelude.{◌≡◌, ◌↔◌, ℕ, ◌+◌, ◌<◌, ◌≤◌, List, Bool, false, Some, length, slice_get, slice_index, slice_index_or}
+use Rattle.std.specs.Prelude.{◌≡◌, ◌↔◌, ℕ, ◌+◌, ◌<◌, ◌≤◌, List, Bool, false, Some, length, slice_get, slice_index, slice_index_or, Contains}
 use Rattle.effect_order.specs.Flow.{LeadsBy}
 use Rattle.site_graph.specs.Graph.{Graph}
 use Rattle.site_graph.specs.Ways.{Goes}
@@ -22,6 +22,11 @@ AreReachedFrom graph starts stops bits =
 -- the same, where the points at which a path stops are those of a row of bits
 abbrev pub ReachesBy : Graph → (stops : Bits) → (row : ℕ) → ℕ → ℕ → Type 0
 ReachesBy graph stops row a t = LeadsBy (Goes graph) (λ z. IsSet stops row z → ⊥) a t
+
+-- in one row, each point that is reached from one of a list
+abbrev pub AreReachedFromAny : Graph → (starts : List ℕ) → (stops : Bits) → (row : ℕ) → Bits → Type 0
+AreReachedFromAny graph starts stops row bits =
+    IsOf 1 (length graph.points) (λ r t. (a : ℕ) × Contains starts a × ReachesBy graph stops row a t) bits
 
 -- for each point, and for one past the last, how many edges lead from lower points; the edges stand in that order
 pub record AreFirsts (graph : Graph) (firsts : List ℕ) : Type 0 where

@@ -1,7 +1,7 @@
 //! Rows of bits, kept as words of 64 bits.
 
 ghost use Rattle.std.specs.Prelude.{◌≡◌, ℕ, ◌+◌, ◌*◌, ◌/◌, ◌%◌, ◌^◌, ◌<◌, ◌≤◌, ◌↔◌, ◌⊎◌, true, false, length, IsTrue, IfOk, slice_index, bit_and, bit_or};
-ghost use Rattle.site_graph.specs.Bits.{IsSet, no_bits, IsWith, IsJoined, Gains, IsWithCommon};
+ghost use Rattle.site_graph.specs.Bits.{IsSet, AreInOrder, no_bits, IsWith, IsJoined, Gains, IsWithCommon};
 ghost use Rattle.site_graph.specs.BitWords.{words_a_row, bit_of, AreAdded, Adds};
 
 use sc_base::OutOfMemory;
@@ -46,14 +46,16 @@ impl BitRows {
 
     /// How many rows there are.
     pub fn rows(&self) -> u32
-        ensures { result ≡ self.now.rows }
+        ensures rows { result ≡ self.now.rows }
+        ensures in_order { AreInOrder self.now }
     {
         self.rows
     }
 
     /// How many columns there are.
     pub fn columns(&self) -> u32
-        ensures { result ≡ self.now.columns }
+        ensures columns { result ≡ self.now.columns }
+        ensures in_order { AreInOrder self.now }
     {
         self.columns
     }

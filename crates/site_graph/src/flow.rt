@@ -1,7 +1,11 @@
 //! The flow of a source.
 
+ghost use Rattle.std.specs.Prelude.{◌≡◌, Some};
+ghost use Rattle.site_graph.specs.Graph.{site_at};
+ghost use Rattle.site_graph.specs.Kept.{IsSiteOf};
+
 use crate::point::Points;
-use crate::site::Sites;
+use crate::site::{Site, Sites};
 use sqlite_items::Items;
 use std::marker::Model;
 
@@ -39,4 +43,14 @@ impl Model for Flow {
     ghost view = { λ f. record { points = f.points; edges = f.edges; sites = f.sites; exposed = f.exposed } };
 
     ghost invariant = { λ f. IsFlow (record { points = f.points; edges = f.edges; sites = f.sites; exposed = f.exposed }) };
+}
+
+impl Flow {
+    /// The site with this number, which is counted from 1.
+    pub fn site(&self, number: u32) -> Site
+        requires { IsSiteOf self.now number }
+        ensures { site_at self.now number ≡ Some result }
+    {
+        self.sites.as_slice()[number as usize - 1]
+    }
 }

@@ -16,7 +16,7 @@ pub use flow::{Edge, Edges, Flow, ObjectList};
 pub use laws::{plain_plans_wait_in_time, ways_are_of_order};
 pub use plan::{Conflicts, Phases, Plan, WaitRows};
 pub use point::{LocalList, NODE_MARK, Point, PointKind, Points};
-pub use reaching::{first_edges, reach, reach_from, search};
+pub use reaching::{first_edges, reach, reach_from, search, search_any};
 pub use site::{Form, IndexForm, Site, SiteKind, SiteList, Sites};
 
 #[cfg(test)]

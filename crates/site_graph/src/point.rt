@@ -1,5 +1,9 @@
 //! The points of a flow.
 
+ghost use Rattle.std.specs.Prelude.{◌≡◌};
+ghost use Rattle.site_graph.specs.Graph as graph;
+ghost use Rattle.site_graph.specs.Order as order;
+
 use crate::site::SiteList;
 use sqlite_items::Items;
 
@@ -24,6 +28,22 @@ pub enum PointKind {
     Call,
     /// A `return`, or the end of a body.
     Return,
+}
+
+impl PointKind {
+    /// Whether the nodes wait there for each other.
+    pub fn is_barrier(self) -> bool
+        ensures { result ≡ graph.is_barrier self }
+    {
+        matches!(self, PointKind::Barrier | PointKind::StoreSync)
+    }
+
+    /// Whether it is `sync()`.
+    pub fn is_sync(self) -> bool
+        ensures { result ≡ order.is_sync self }
+    {
+        matches!(self, PointKind::Sync)
+    }
 }
 
 /// Numbers of locals, counted from 0 in their function, and the node mark; seen as a list.

@@ -4,8 +4,8 @@ ghost use Rattle.std.specs.Prelude.{◌≡◌, ◌<◌, ◌≤◌, ◌^◌, ℕ,
 ghost use Rattle.std.specs.List.{range_with_len};
 ghost use Rattle.site_graph.specs.Bits.{IsOf};
 ghost use Rattle.site_graph.specs.Kept.{IsPointOf};
-ghost use Rattle.site_graph.specs.Reached.{AreReached, AreReachedFrom, ReachesBy, AreFirsts};
-ghost use Rattle.site_graph.specs.Opened.{IsTarget, IsOpened};
+ghost use Rattle.site_graph.specs.Reached.{AreReached, AreReachedFrom, AreReachedFromAny, ReachesBy, AreFirsts};
+ghost use Rattle.site_graph.specs.Opened.{IsTarget, IsBegunBefore, IsOpened};
 ghost use Rattle.site_graph.specs.Ways.{Goes};
 ghost use Rattle.site_graph.specs.declared.flow.Edge.{Edge};
 
@@ -64,9 +64,28 @@ pub fn search(
     requires columns { stops.now.columns ≡ length flow.now.points }
     ensures { IfOk result (IsOf 1 (length flow.now.points) (λ row t. ReachesBy flow.now stops.now stop_row start t)) }
 {
+    search_any(alloc, flow, firsts, &[start], stops, stop_row)
+}
+
+/// Sets, in its one row, exactly the points t to which a path of at least one edge leads from one of the points `starts`,
+/// of whose inner points none is set in the row `stop_row` of `stops`. `firsts` is what `first_edges` gives for the flow.
+pub fn search_any(
+    alloc: Global,
+    flow: &Flow,
+    firsts: &[usize],
+    starts: &[u32],
+    stops: &BitRows,
+    stop_row: u32,
+) -> Result<BitRows, OutOfMemory>
+    requires firsts { AreFirsts flow.now firsts.now }
+    requires points { All (IsPointOf flow.now) starts.now }
+    requires stop_row { stop_row < stops.now.rows }
+    requires columns { stops.now.columns ≡ length flow.now.points }
+    ensures { IfOk result (AreReachedFromAny flow.now starts.now stops.now stop_row) }
+{
     let mut found = BitRows::new(alloc, 1, flow.points.as_slice().len() as u32)?;
     let mut todo = Vec::new(alloc);
-    open_from(flow, firsts, start, &mut found, &mut todo)?;
+    open_from_all(flow, firsts, starts, &mut found, &mut todo)?;
     while let Some(point) = todo.pop() {
         if !stops.get(stop_row, point) {
             open_from(flow, firsts, point, &mut found, &mut todo)?;
@@ -123,6 +142,27 @@ fn open_from(
     let from = firsts[point as usize];
     let to = firsts[point as usize + 1];
     open_targets(flow.edges.as_slice(), from, to, found, todo)?;
+    Ok(())
+}
+
+/// Sets the points to which an edge leads from one of these, and opens those that were not set before.
+fn open_from_all(
+    flow: &Flow,
+    firsts: &[usize],
+    starts: &[u32],
+    found: &mut BitRows,
+    todo: &mut Vec<u32>,
+) -> Result<(), OutOfMemory>
+    requires firsts { AreFirsts flow.now firsts.now }
+    requires points { All (IsPointOf flow.now) starts.now }
+    requires row { found.old.rows ≡ 1 }
+    requires columns { found.old.columns ≡ length flow.now.points }
+    ensures { IfOk result (λ _. IsOpened (IsBegunBefore flow.now starts.now (length starts.now)) found.old found.new todo.old.items todo.new.items) }
+{
+    for number in 0..starts.len() {
+        let start = starts[number];
+        open_from(flow, firsts, start, found, todo)?;
+    }
     Ok(())
 }
 

@@ -1,5 +1,8 @@
 //! The accesses of a source, and which cells each of them may reach as far as its text tells.
 
+ghost use Rattle.std.specs.Prelude.{◌≡◌};
+ghost use Rattle.site_graph.specs.Graph as graph;
+
 use sc_base::CopyMode;
 use sqlite_items::Items;
 
@@ -12,6 +15,28 @@ pub enum SiteKind {
     Put,
     Store,
     Copy(CopyMode),
+}
+
+impl SiteKind {
+    /// Whether the access is over, in the source, before the node's next step.
+    pub fn is_blocking(self) -> bool
+        ensures { result ≡ graph.is_blocking self }
+    {
+        matches!(
+            self,
+            SiteKind::Read | SiteKind::Write | SiteKind::Copy(CopyMode::Blocking)
+        )
+    }
+
+    /// Whether the access is over, in the source, at the node's next sync.
+    pub fn is_split(self) -> bool
+        ensures { result ≡ graph.is_split self }
+    {
+        matches!(
+            self,
+            SiteKind::Get | SiteKind::Put | SiteKind::Copy(CopyMode::Split)
+        )
+    }
 }
 
 /// What is known of the index of an element of a spread array with one dimension, on the node `MYPROC` of `PROCS`.

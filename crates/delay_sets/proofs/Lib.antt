@@ -1,0 +1,4 @@
+pub mod Paths
+pub mod Composing
+pub mod Before
+pub mod Backs

@@ -1,0 +1,7 @@
+use Rattle.std.proofs.Common.{length, ◌+◌}
+use Rattle.delay_sets.specs.Delays.{Link}
+use Rattle.delay_sets.proofs.Backs.{RowsOf}
+use Rattle.delay_sets.proofs.analysis.links.Given as goal
+
+abbrev pub invariant-loop-site : goal.invariant-loop-site
+invariant-loop-site l = RowsOf (Link l.flow l.conflicts.cross l.conflicts.own) (length l.flow.sites + 1) l.site l.rows

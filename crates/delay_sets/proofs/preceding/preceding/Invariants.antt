@@ -1,0 +1,5 @@
+use Rattle.delay_sets.proofs.Before.{AreBelow}
+use Rattle.delay_sets.proofs.preceding.preceding.Given as goal
+
+abbrev pub invariant-loop-at : goal.invariant-loop-at
+invariant-loop-at l = AreBelow l.flow l.at l.rows
