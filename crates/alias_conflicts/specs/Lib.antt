@@ -1,2 +1,4 @@
 pub mod May
 pub mod Conflicting
+pub mod Regions
+pub mod Firsts

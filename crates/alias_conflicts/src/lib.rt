@@ -1,2 +1,8 @@
 //! Which sites of a source may reach the same cells.
 #![tactic(auto)]
+
+mod conflicting;
+mod region;
+mod sharing;
+
+pub use conflicting::conflicts;
