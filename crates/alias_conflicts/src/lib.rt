@@ -6,3 +6,6 @@ mod region;
 mod sharing;
 
 pub use conflicting::conflicts;
+
+#[cfg(test)]
+mod tests;
