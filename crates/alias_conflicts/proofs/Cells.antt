@@ -1,15 +1,12 @@
 -- The flat indices of a layout's cells.
-use Rattle.std.proofs.Common.{◌≡◌, ◌↔◌, ◌⊎◌, ℕ, ◌+◌, ◌*◌, ◌/◌, ◌%◌, ◌^◌, ◌<◌, ◌≤◌, Bool, true, false, Option, Some, None, List, length, inl, inr, ⊎_elim, refl, sym, ap, ◌∙◌, subst, arith, slice_get}
+use Rattle.std.proofs.Common.{◌≡◌, ◌⊎◌, ℕ, ◌^◌, ◌<◌, Bool, true, false, Option, Some, None, length, inl, inr, ⊎_elim, refl, sym, ap, ◌∙◌, subst, arith, slice_get}
 use Rattle.std.specs.Prelude.{nat_lt, if◌then◌else◌}
 use Rattle.std.specs.Option.{option_and_then, option_map}
 use Rattle.sc_base.specs.declared.shape.Shape.{Shape}
 use Rattle.std.proofs.lemmas.Option.{slice_get_within, slice_get_cases}
-use Rattle.std.proofs.lemmas.Nat.{mod_below}
 use Rattle.sc_base.specs.declared.value.Place.{Place}
-use Rattle.sc_layout.specs.Layout.{Arrangement, LaidObject, IsLayout, product, blocks_of, block_of, cells_of}
+use Rattle.sc_layout.specs.Layout.{Arrangement, LaidObject, IsLayout, product, block_of, cells_of}
 use Rattle.sc_layout.specs.Place.{IsPlace, place_of, place_in, spread_place, extent_of}
-use Rattle.sc_layout.specs.Laws.{OneToOne}
-use Rattle.sc_layout.specs.Small.{IsSmall}
 use Rattle.sc_layout.proofs.Kept.{small, all-blocks, cells-ordinary}
 use Rattle.sc_layout.proofs.OneToOne.{elements_are_places}
 

@@ -1,9 +1,9 @@
 -- Where an object has a cell on a node with one of some indices, it has one at the first of them.
-use Rattle.std.proofs.Common.{◌≡◌, ◌↔◌, ◌⊎◌, ℕ, suc, ◌+◌, ◌-◌, ◌*◌, ◌/◌, ◌%◌, ◌^◌, ◌<◌, ◌≤◌, Bool, true, false, Option, Some, None, inl, inr, ⊎_elim, refl, sym, ap, ◌∙◌, subst, arith, slice_get}
-use Rattle.std.specs.Prelude.{IsSomeAnd, if◌then◌else◌, nat_eq, is_some}
+use Rattle.std.proofs.Common.{◌≡◌, ◌↔◌, ℕ, ◌+◌, ◌-◌, ◌*◌, ◌/◌, ◌%◌, ◌<◌, ◌≤◌, Bool, true, false, Option, Some, None, inl, inr, ⊎_elim, refl, sym, ap, ◌∙◌, subst, arith, slice_get}
+use Rattle.std.specs.Prelude.{IsSomeAnd, nat_eq, is_some}
 use Rattle.std.proofs.lemmas.Bool.{cases_lt}
-use Rattle.std.proofs.lemmas.Nat.{mod_below, same_from_place, div-mul-add, div_below, mul-le}
-use Rattle.std.proofs.Math.Nat.{add-mod, add-mod_right, add-mul-mod_self_left, div-add-mod, mod-eq_of_lt, mod-le, div-mul-le_self}
+use Rattle.std.proofs.lemmas.Nat.{mod_below, same_from_place, div-mul-add, mul-le}
+use Rattle.std.proofs.Math.Nat.{add-mod, add-mod_right, add-mul-mod_self_left, div-add-mod, mod-eq_of_lt, mod-le}
 use Rattle.sc_base.specs.declared.value.Place.{Place}
 use Rattle.sc_layout.specs.Layout.{Arrangement, LaidObject, IsLayout, product, blocks_of, block_of, cells_of, share_of}
 use Rattle.sc_layout.specs.Place.{place_of, spread_place, extent_of}
@@ -12,9 +12,9 @@ use Rattle.sc_layout.proofs.Kept.{some_cells, all-blocks, positive_second, cells
 use Rattle.sc_layout.proofs.Numbers.{big_second, share-all}
 use Rattle.alias_conflicts.specs.declared.region.Indices.{Indices}
 use Rattle.alias_conflicts.specs.declared.region.Indices.TheVariants.{Any, One, Remainder}
-use Rattle.alias_conflicts.specs.Regions.{HasIndex, IsBelow, HasCell, Agrees}
+use Rattle.alias_conflicts.specs.Regions.{HasIndex, IsBelow, HasCell}
 use Rattle.alias_conflicts.specs.Firsts.{first_index, next_index}
-use Rattle.alias_conflicts.proofs.Cells.{object_from, object_at, spread_cases, spread_at, spread_from, spread_any, ordinary_at, ordinary_from, below_product, cell_from}
+use Rattle.alias_conflicts.proofs.Cells.{object_from, spread_cases, spread_at, spread_from, ordinary_at, below_product, cell_from}
 
 -- ---- remainders
 

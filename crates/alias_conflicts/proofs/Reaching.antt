@@ -1,19 +1,14 @@
 -- What a form allows on a node is a region.
-use Rattle.std.proofs.Common.{◌≡◌, ◌↔◌, ◌⊎◌, ℕ, ◌<◌, ◌^◌, true, false, Option, Some, None, List, length, inl, inr, ⊎_elim, refl, sym, ap, ◌∙◌, subst, slice_get}
-use Rattle.std.specs.Prelude.{IsSomeAnd, Contains}
-use Rattle.sc_base.specs.declared.value.Place.{Place}
+use Rattle.std.proofs.Common.{◌≡◌, ℕ, ◌<◌, ◌^◌, true, false, Some, None, sym, subst, slice_get}
 use Rattle.sc_layout.specs.Layout.{Arrangement, LaidObject, IsLayout}
-use Rattle.sc_layout.specs.Place.{IsPlace, place_of}
-use Rattle.site_graph.specs.declared.site.Form.{Form}
+use Rattle.sc_layout.specs.Place.{place_of}
 use Rattle.site_graph.specs.declared.site.Form.TheVariants.{Element, Own, OwnExposed, Exposed}
 use Rattle.site_graph.specs.declared.site.IndexForm.{IndexForm}
 use Rattle.site_graph.specs.Graph.{Graph}
-use Rattle.alias_conflicts.specs.declared.region.Region.{Region}
 use Rattle.alias_conflicts.specs.declared.region.Indices.{Indices}
 use Rattle.alias_conflicts.specs.declared.region.Indices.TheVariants.{Any}
-use Rattle.alias_conflicts.specs.May.{AllowsIndex, Allows}
-use Rattle.alias_conflicts.specs.Regions.{IsIn, AreIndices, IsRegionOf, HasIndex}
-use Rattle.alias_conflicts.proofs.Cells.{IsCell, cell_from, index_of, fits_word, spread_any, ordinary_from}
+use Rattle.alias_conflicts.specs.Regions.{AreIndices, IsRegionOf}
+use Rattle.alias_conflicts.proofs.Cells.{cell_from, index_of, fits_word, spread_any, ordinary_from}
 
 pub element_none : (layout : Arrangement) (graph : Graph) (object : ℕ) (form : IndexForm) (node : ℕ) → IsLayout layout → layout.nodes < 2 ^ 32 → AreIndices layout.nodes node form None → IsRegionOf layout graph (Element object form) node None
 element_none layout graph object form node h few none cell =

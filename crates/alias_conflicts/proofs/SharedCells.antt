@@ -1,7 +1,7 @@
 -- Two sites share a cell exactly where two of their forms do, one of which is written.
-use Rattle.std.proofs.Common.{◌≡◌, ◌≢◌, ◌↔◌, ◌⊎◌, ℕ, ◌+◌, ◌<◌, ◌≤◌, Bool, true, false, Option, Some, None, List, length, get_or, inl, inr, ⊎_elim, refl, sym, ap, ◌∙◌, subst, arith, slice_get}
+use Rattle.std.proofs.Common.{◌≡◌, ◌↔◌, ℕ, ◌+◌, ◌<◌, ◌≤◌, Option, Some, None, List, inl, inr, ⊎_elim, refl, sym, subst, arith}
 use Rattle.std.specs.Prelude.{IsSomeAnd, Contains}
-use Rattle.std.proofs.lemmas.Bool.{cases_lt, cases_eq}
+use Rattle.std.proofs.lemmas.Bool.{cases_lt}
 use Rattle.sc_base.specs.declared.value.Place.{Place}
 use Rattle.sc_layout.specs.Layout.{Arrangement, IsLayout}
 use Rattle.sc_layout.specs.Place.{place_of}
@@ -9,8 +9,8 @@ use Rattle.site_graph.specs.declared.site.Form.{Form}
 use Rattle.site_graph.specs.declared.site.Site.{Site}
 use Rattle.site_graph.specs.Graph.{Graph}
 use Rattle.alias_conflicts.specs.declared.region.Region.{Region}
-use Rattle.alias_conflicts.specs.May.{Allows, Share, MayRead, MayWrite, MayReach}
-use Rattle.alias_conflicts.specs.Regions.{FormsShare, IsRegionAt, IsIn, HasIndex, HasObject, Overlap, Meets, ShareFrom}
+use Rattle.alias_conflicts.specs.May.{Allows, Share}
+use Rattle.alias_conflicts.specs.Regions.{FormsShare, IsRegionAt, IsIn, HasObject, Overlap, Meets}
 use Rattle.alias_conflicts.proofs.Cells.{one_index, cell_from}
 
 -- ---- forms and sites

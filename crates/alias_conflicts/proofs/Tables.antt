@@ -1,15 +1,15 @@
 -- The tables of conflicts grow by a site and another.
-use Rattle.std.proofs.Common.{◌≡◌, ◌↔◌, ◌⊎◌, get_or, ℕ, zero, suc, ◌+◌, ◌<◌, ◌≤◌, Bool, true, false, List, length, Some, inl, inr, ⊎_elim, refl, sym, ap, ◌∙◌, subst, arith, slice_get}
+use Rattle.std.proofs.Common.{◌≡◌, ◌↔◌, get_or, ℕ, zero, suc, ◌+◌, ◌<◌, ◌≤◌, Bool, true, false, List, length, Some, inl, inr, ⊎_elim, refl, sym, ap, ◌∙◌, subst, arith, slice_get}
 use Rattle.std.proofs.lemmas.Bool.{cases_lt, cases_Bool, both_ways}
 use Rattle.std.proofs.lemmas.Option.{slice_get_within, slice_get-get_or}
 use Rattle.sc_layout.specs.Layout.{Arrangement}
 use Rattle.site_graph.specs.declared.site.Site.{Site}
-use Rattle.site_graph.specs.Bits.{Bits, IsSet, IsWith, IsOf, no_bits}
+use Rattle.site_graph.specs.Bits.{Bits, IsSet, IsWith, no_bits}
 use Rattle.site_graph.specs.Graph.{Graph, site_at}
 use Rattle.site_graph.proofs.Members.{in_nil}
 use Rattle.alias_conflicts.specs.May.{Across, OwnConflict}
 use Rattle.alias_conflicts.specs.Conflicting.{AreConflicts, BySites}
-use Rattle.alias_conflicts.specs.Regions.{IsMarked, IsRowSet, IsTable, AreTables, AreRowsUpTo, ShareAcross, ShareOwn}
+use Rattle.alias_conflicts.specs.Pairs.{IsMarked, IsRowSet, IsTable, AreTables, AreRowsUpTo, ShareAcross, ShareOwn}
 
 -- ---- one row
 

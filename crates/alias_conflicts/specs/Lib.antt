@@ -2,3 +2,4 @@ pub mod May
 pub mod Conflicting
 pub mod Regions
 pub mod Firsts
+pub mod Pairs

@@ -7,7 +7,8 @@ ghost use Rattle.site_graph.specs.Graph.{Graph};
 ghost use Rattle.site_graph.specs.Bits.{IsSet};
 ghost use Rattle.alias_conflicts.specs.May.{Share};
 ghost use Rattle.alias_conflicts.specs.Conflicting.{AreConflicts};
-ghost use Rattle.alias_conflicts.specs.Regions.{FormsShare, IsMarked, ShareAcross, ShareOwn, ShareFrom, AreRowsUpTo, IsRegion, IsRegionAt};
+ghost use Rattle.alias_conflicts.specs.Regions.{FormsShare, IsRegion, IsRegionAt};
+ghost use Rattle.alias_conflicts.specs.Pairs.{IsMarked, ShareAcross, ShareOwn, ShareFrom, AreRowsUpTo};
 
 use crate::region::{Region, region_of};
 use crate::sharing::overlap;

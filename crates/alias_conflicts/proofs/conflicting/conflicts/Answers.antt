@@ -1,6 +1,6 @@
 use Rattle.std.proofs.Common.{◌∙◌, ap, subst}
 use Rattle.site_graph.specs.Graph.{Graph}
-use Rattle.alias_conflicts.specs.Regions.{AreTables}
+use Rattle.alias_conflicts.specs.Pairs.{AreTables}
 use Rattle.alias_conflicts.proofs.Tables.{tables_grow, all_tables, item_at, all_items}
 use Rattle.alias_conflicts.proofs.conflicting.conflicts.Goals as goal
 

@@ -1,4 +1,4 @@
-use Rattle.alias_conflicts.specs.Regions.{AreTables}
+use Rattle.alias_conflicts.specs.Pairs.{AreTables}
 use Rattle.alias_conflicts.proofs.conflicting.conflicts.Given as goal
 
 abbrev pub invariant-loop-before : goal.invariant-loop-before

@@ -1,4 +1,4 @@
-use Rattle.alias_conflicts.specs.Regions.{AreRowsUpTo}
+use Rattle.alias_conflicts.specs.Pairs.{AreRowsUpTo}
 use Rattle.alias_conflicts.proofs.conflicting.conflicts_of.Given as goal
 
 abbrev pub invariant-loop-before : goal.invariant-loop-before

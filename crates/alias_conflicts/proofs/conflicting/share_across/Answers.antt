@@ -1,6 +1,6 @@
-use Rattle.std.proofs.Common.{◌≡◌, ◌≤◌, ℕ, arith}
+use Rattle.std.proofs.Common.{◌≤◌, arith}
 use Rattle.std.proofs.lemmas.Bool.{both_ways}
-use Rattle.alias_conflicts.specs.Regions.{ShareFrom}
+use Rattle.alias_conflicts.specs.Pairs.{ShareFrom}
 use Rattle.alias_conflicts.proofs.SharedCells.{none_at, found_nowhere}
 use Rattle.alias_conflicts.proofs.conflicting.share_across.Goals as goal
 

@@ -1,5 +1,5 @@
 use Rattle.std.proofs.Common.{ℕ, ◌<◌}
-use Rattle.alias_conflicts.specs.Regions.{ShareFrom}
+use Rattle.alias_conflicts.specs.Pairs.{ShareFrom}
 use Rattle.alias_conflicts.proofs.conflicting.share_across.Given as goal
 
 abbrev pub invariant-loop-p : goal.invariant-loop-p

@@ -1,4 +1,4 @@
-use Rattle.std.proofs.Common.{◌≡◌, ◌≢◌, ◌≤◌, ℕ, sym, arith}
+use Rattle.std.proofs.Common.{◌≢◌, ◌≤◌, sym, arith}
 use Rattle.std.proofs.lemmas.Bool.{both_ways}
 use Rattle.alias_conflicts.specs.May.{Share}
 use Rattle.alias_conflicts.proofs.SharedCells.{none_at, found_nowhere}

@@ -1,4 +1,4 @@
-use Rattle.std.proofs.Common.{◌≡◌, ℕ, ◌<◌}
+use Rattle.std.proofs.Common.{ℕ, ◌<◌}
 use Rattle.std.specs.Prelude.{◌≢◌}
 use Rattle.alias_conflicts.specs.May.{Share}
 use Rattle.alias_conflicts.proofs.conflicting.share_from.Given as goal

@@ -1,4 +1,4 @@
-use Rattle.std.proofs.Common.{◌≡◌, ◌∙◌, ap, rules, w64, pos}
+use Rattle.std.proofs.Common.{◌∙◌, ap, rules, w64, pos}
 use Rattle.std.specs.Int.{int_rem_euclid, w128}
 use Rattle.std.specs.Prelude.{FitsSigned}
 use Rattle.std.proofs.lemmas.Int.{to_z-of_z}

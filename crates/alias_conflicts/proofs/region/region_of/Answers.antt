@@ -1,4 +1,4 @@
-use Rattle.std.proofs.Common.{◌≡◌, ◌<◌, ◌^◌, ℕ, true, false, Some, None, sym, ap, ◌∙◌, subst, arith, slice_get}
+use Rattle.std.proofs.Common.{◌<◌, ◌^◌, Some, None, sym, ap, ◌∙◌, subst, arith, slice_get}
 use Rattle.sc_base.specs.declared.shape.Shape.{Shape}
 use Rattle.alias_conflicts.specs.Regions.{AreIndices, IsRegionOf}
 use Rattle.alias_conflicts.proofs.Cells.{shape_from}

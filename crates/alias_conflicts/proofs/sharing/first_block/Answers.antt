@@ -1,4 +1,4 @@
-use Rattle.std.proofs.Common.{◌≡◌, ◌+◌, ◌-◌, ◌/◌, inl, inr, arith, ◌<◌, ◌≤◌}
+use Rattle.std.proofs.Common.{◌+◌, ◌-◌, ◌/◌, inl, inr, arith, ◌<◌}
 use Rattle.sc_layout.specs.Layout.{block_of}
 use Rattle.std.proofs.lemmas.Bool.{cases_lt, both_ways}
 use Rattle.alias_conflicts.proofs.Finding.{block_le_extent, passes_below, first_block_in}

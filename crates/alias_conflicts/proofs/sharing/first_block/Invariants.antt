@@ -1,4 +1,4 @@
-use Rattle.std.proofs.Common.{◌≡◌, ◌<◌, ◌≤◌, ◌-◌, ℕ, Some, true, slice_get}
+use Rattle.std.proofs.Common.{◌≡◌, ◌<◌, ◌≤◌, ◌-◌, Some, true, slice_get}
 use Rattle.sc_layout.specs.Layout.{LaidObject, block_of}
 use Rattle.alias_conflicts.proofs.sharing.first_block.Given as goal
 

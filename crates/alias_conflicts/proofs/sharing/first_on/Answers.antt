@@ -1,4 +1,4 @@
-use Rattle.std.proofs.Common.{◌≡◌, ◌*◌, ◌<◌, ◌≤◌, ◌^◌, ◌-◌, arith}
+use Rattle.std.proofs.Common.{◌^◌, ◌-◌, arith}
 use Rattle.std.proofs.lemmas.Nat.{mul-le}
 use Rattle.alias_conflicts.proofs.sharing.first_on.Goals as goal
 

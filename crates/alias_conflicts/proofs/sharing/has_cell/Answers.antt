@@ -1,4 +1,4 @@
-use Rattle.std.proofs.Common.{◌↔◌, ◌≡◌, true, ◌∙◌, sym, ap, subst}
+use Rattle.std.proofs.Common.{◌↔◌, ◌∙◌, sym, ap, subst}
 use Rattle.std.specs.Prelude.{IsTrue}
 use Rattle.alias_conflicts.specs.Firsts.{next_index}
 use Rattle.alias_conflicts.specs.Regions.{HasCell}

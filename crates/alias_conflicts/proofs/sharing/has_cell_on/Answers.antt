@@ -1,4 +1,4 @@
-use Rattle.std.proofs.Common.{◌∙◌, sym, ap, None}
+use Rattle.std.proofs.Common.{◌∙◌, sym, ap}
 use Rattle.alias_conflicts.specs.Firsts.{next_index}
 use Rattle.alias_conflicts.proofs.Cells.{object_at}
 use Rattle.alias_conflicts.proofs.Finding.{cell_is_on, cell_is_not}

@@ -1,4 +1,4 @@
-use Rattle.std.proofs.Common.{ℕ, take}
+use Rattle.std.proofs.Common.{take}
 use Rattle.std.specs.Prelude.{All}
 use Rattle.alias_conflicts.specs.Regions.{HasObject, Meets}
 use Rattle.alias_conflicts.proofs.sharing.overlap_exposed.Given as goal
