@@ -31,6 +31,7 @@ pub fn conflicts(
     requires columns { phases.now.meets.columns ≡ length flow.now.sites + 1 }
     ensures { IfOk result (λ c. AreConflicts layout.now flow.now phases.now.meets c.cross c.own) }
 {
+    // Read for the proof alone, which learns that the layout is lawful.
     let _objects = layout.count();
     let sites = flow.sites.as_slice();
     let size = sites.len() as u32 + 1;
@@ -93,7 +94,7 @@ fn mark(rows: &mut BitRows, row: u32, column: u32, holds: bool)
     }
 }
 
-/// Whether the sites with these numbers meet and conflict from two nodes.
+/// Whether two nodes may stand at the sites with these numbers, and the sites conflict from two nodes.
 fn conflict_across(
     flow: &Flow,
     meets: &BitRows,
