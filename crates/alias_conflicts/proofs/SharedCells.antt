@@ -10,7 +10,7 @@ use Rattle.site_graph.specs.declared.site.Site.{Site}
 use Rattle.site_graph.specs.Graph.{Graph}
 use Rattle.alias_conflicts.specs.declared.region.Region.{Region}
 use Rattle.alias_conflicts.specs.May.{Allows, Share}
-use Rattle.alias_conflicts.specs.Regions.{FormsShare, IsRegionAt, IsIn, HasObject, Overlap, Meets}
+use Rattle.alias_conflicts.specs.Regions.{Agrees, FormsShare, IsRegionAt, IsIn, HasObject, Overlap, Meets}
 use Rattle.alias_conflicts.proofs.Cells.{one_index, cell_from}
 
 -- ---- forms and sites
@@ -118,3 +118,9 @@ found_at P n k low p = (k, low, p)
 
 pub found_nowhere : (P : ℕ → Type 0) (n i : ℕ) → n ≤ i → ((k : ℕ) → k < i → P k → ⊥) → (j : ℕ) × (j < n) × P j → ⊥
 found_nowhere P n i le none w = (let low = w.1 in none w.0 (omega arith) w.2)
+
+-- regions on two nodes
+pub nodes_agree : (layout : Arrangement) (object node : ℕ) (a b : Region) → a.node ≡ Some node → Meets layout object a b → Agrees b.node node
+nodes_agree layout object node a b only m =
+    let is : m.cell.node ≡ node = subst (λ given. Agrees given m.cell.node) only m.first_node in
+    subst (Agrees b.node) is m.second_node

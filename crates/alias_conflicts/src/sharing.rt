@@ -20,11 +20,26 @@ pub(crate) fn overlap(layout: &Layout, exposed: &[u32], a: &Region, b: &Region) 
 {
     match a.object {
         Some(object) => has_object(exposed, b.object, object) && meet(layout, object, a, b),
+        None => overlap_some(layout, exposed, a, b),
+    }
+}
+
+/// Whether some exposed object has a cell that is in both regions, of which the first has no object of its own. Where their
+/// nodes differ no object is looked at.
+fn overlap_some(layout: &Layout, exposed: &[u32], a: &Region, b: &Region) -> bool
+    requires lawful { IsLayout layout.now }
+    requires exposed { All (λ o. o < length layout.now.objects) exposed.now }
+    requires a { IsRegion layout.now a.now }
+    requires b { IsRegion layout.now b.now }
+    ensures { IsTrue result ↔ ((o : ℕ) × Contains exposed.now o × HasObject exposed.now b.now.object o × Meets layout.now o a.now b.now) }
+{
+    match a.node {
+        Some(node) => agrees(b.node, node) && overlap_exposed(layout, exposed, a, b),
         None => overlap_exposed(layout, exposed, a, b),
     }
 }
 
-/// Whether some exposed object has a cell that is in both regions, of which the first has no object of its own.
+/// The same, object by object.
 fn overlap_exposed(layout: &Layout, exposed: &[u32], a: &Region, b: &Region) -> bool
     requires lawful { IsLayout layout.now }
     requires exposed { All (λ o. o < length layout.now.objects) exposed.now }

@@ -9,4 +9,4 @@ returns-then-has_object c =
 pub returns-in-None : goal.returns-in-None
 returns-in-None c =
     let all = exposed_objects c.args.layout.now c.args.exposed.now c.args.a.now c.args.b.now c.requires.lawful c.in-None.is in
-    (λ e. all.0 (c.overlap_exposed.ensures.0 e), λ w. c.overlap_exposed.ensures.1 (all.1 w))
+    (λ e. all.0 (c.overlap_some.ensures.0 e), λ w. c.overlap_some.ensures.1 (all.1 w))
