@@ -1,2 +1,5 @@
 pub mod May
 pub mod Conflicting
+pub mod Regions
+pub mod Firsts
+pub mod Pairs

@@ -1,2 +1,11 @@
 //! Which sites of a source may reach the same cells.
 #![tactic(auto)]
+
+mod conflicting;
+mod region;
+mod sharing;
+
+pub use conflicting::conflicts;
+
+#[cfg(test)]
+mod tests;
