@@ -18,7 +18,7 @@ use Rattle.sc_typing.specs.Types.{int, has_stars, is_int}
 use Rattle.sc_typing.specs.Known.{Valued, expression_of, fits, common, Judgement, only}
 use Rattle.sc_typing.specs.Rules
 use Rattle.sc_typing.specs.Operators.{int_value, Gathered, gathered, gather}
-use Rattle.sc_typing.specs.Chains.{Linked, first_link, begin_chain, left_operand, level_of, link_kept, has_links, met_unless, with_first, pushed, pushed_int, equality, with_link, join_kept, join, chain_value}
+use Rattle.sc_typing.specs.Chains.{Linked, first_link, begin_chain, left_operand, has_links, met_unless, with_first, as_they_are, of_one_type, pushed, row_of, with_link, join_kept, join, chain_value}
 use Rattle.sc_typing.specs.Typing.{gathered_value, both_form, either_form, nothing_gathered, chained, judge, judge_links, judge_operands}
 use Rattle.sc_typing.proofs.TypedLists.{no_chain}
 use Rattle.sc_core.specs.Places.{last_of, without_last, star_after}
@@ -111,7 +111,7 @@ module _ (objects : List Shape) (scope : Scope) where
 
   sum-linking : {at_place : PlaceKind} (l : Linked) (o : Binary) (at line : ℕ) (v : Valued) → Rules.moves o ≡ true →
       star_after o (last_of l.ty.stars) ≡ last_of l.ty.stars → Linking l → Sound objects scope at_place v →
-      Rules.sum_kept (Some (left_operand l)) (Some v) ≡ true → Linking (pushed l o (expression_of v) at line)
+      Rules.sum_kept (Some (left_operand l)) (Some v) ≡ true → Linking (pushed (as_they_are l v) o l.ty at line)
   sum-linking l o at line v m s k f h =
       with_links (has_links-push l.rest _) refl
       (chained-moved objects scope o at line (moves-any l.ty.stars o m) s (linking-chained l k)
@@ -119,7 +119,7 @@ module _ (objects : List Shape) (scope : Scope) where
 
   other-linking : {at_place : PlaceKind} (l : Linked) (o : Binary) (at line : ℕ) (v : Valued) → Linking l →
       Sound objects scope at_place v → (is_int l.ty && is_int v.ty) ≡ true →
-      Linking (pushed_int l o (expression_of v) at line)
+      Linking (pushed (as_they_are l v) o int at line)
   other-linking l o at line v k f h =
       with_links (has_links-push l.rest _) refl
       (chained-number objects scope o at line
@@ -158,7 +158,7 @@ module _ (objects : List Shape) (scope : Scope) where
 
   equality-linking : {at_place : PlaceKind} (l : Linked) (o : Binary) (at line : ℕ) (v : Valued) → IsEquality o → Linking l →
       Sound objects scope at_place v → Rules.comparable (left_operand l) v ≡ true →
-      Linking (equality l o at line v (common l.ty l.is_null v.ty))
+      Linking (pushed (of_one_type l v) o int at line)
   equality-linking l o at line v is k f h =
       let fit = fit-both l.ty l.is_null v.ty v.is_null (compared-fit (left_operand l) v h) in
       let m = first-met l (common l.ty l.is_null v.ty) k fit.first in
@@ -166,8 +166,8 @@ module _ (objects : List Shape) (scope : Scope) where
       (chained-compared at line is m.1 m.2 (met-finds objects scope v (common l.ty l.is_null v.ty) f fit.second))
 
   pub link-linking : {at_place : PlaceKind} (l : Linked) (o : Binary) (at line : ℕ) (v : Valued) → Linking l →
-      Sound objects scope at_place v → link_kept (level_of o) (Some (left_operand l)) (Some v) ≡ true →
-      Linking (with_link (level_of o) l o at line v)
+      Sound objects scope at_place v → (row_of o).kept (Some (left_operand l)) (Some v) ≡ true →
+      Linking (with_link (row_of o) l o at line v)
   link-linking l op.Add at line v k f h = sum-linking l op.Add at line v refl refl k f h
   link-linking l op.Sub at line v k f h = sum-linking l op.Sub at line v refl refl k f h
   link-linking l op.Eq at line v k f h = equality-linking l op.Eq at line v is_eq k f h
@@ -180,11 +180,11 @@ module _ (objects : List Shape) (scope : Scope) where
     unfolding join
     joined l o e at line x known m same =
         let d =
-        made-of (with_link (level_of o) l o at line) (join_kept (Some l) o (judge c locals 0 e))
+        made-of (with_link (row_of o) l o at line) (join_kept (Some l) o (judge c locals 0 e))
         (judge c locals 0 e).known m same in
         subst (λ (m : Linked). Linking m) d.gives
         (link-linking l o at line d.of x (known d.of d.is)
-        (subst (λ (t : Option Valued). link_kept (level_of o) (Some (left_operand l)) t ≡ true) d.is d.rule))
+        (subst (λ (t : Option Valued). (row_of o).kept (Some (left_operand l)) t ≡ true) d.is d.rule))
 
     -- the chain with one link more, and with those that follow
     pub link-step : (l : Linked) (o : Binary) (e : Expression) (at line : ℕ) (more : Links) → Linking l →
