@@ -80,11 +80,11 @@ fn printed(alloc: Global, turns: u32) -> Result<Option<Bytes>, AllocError> {
 
 fn turns(rt: &HostRuntime) -> u32 {
     let Ok(mut words) = env::args(rt) else {
-        return 1_000_000;
+        return 1_000;
     };
     match words.nth(1) {
         Some(word) => word.parse().unwrap_or(0),
-        None => 1_000_000,
+        None => 1_000,
     }
 }
 
