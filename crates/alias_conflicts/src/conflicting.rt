@@ -19,7 +19,7 @@ use std::alloc::Global;
 
 /// The pairs (a, b) of sites, which are numbered from 1, that may reach one cell, at least one of them by writing it:
 /// `own` has those that may do so from one node, and `cross` those that may do so from two nodes that may stand at them
-/// between the same two releases, as the phases say. Row 0 and column 0 are of no site.
+/// between the same two releases, as the phases say. The first row and column are of no site.
 pub fn conflicts(
     alloc: Global,
     flow: &Flow,

@@ -30,7 +30,7 @@ pub fn preceding(alloc: Global, flow: &Flow) -> Result<BitRows, OutOfMemory>
     Ok(rows)
 }
 
-/// The barriers of the flow in row 0, and no point in row 1.
+/// The barriers of the flow in the first row, and no point in the second.
 fn barriers(alloc: Global, flow: &Flow) -> Result<BitRows, OutOfMemory>
     ensures { IfOk result (AreBarriers flow.now) }
 {
