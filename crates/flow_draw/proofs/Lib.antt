@@ -1,0 +1,9 @@
+pub mod Noting
+pub mod Joining
+pub mod Grown
+pub mod Chained
+pub mod Chosen
+pub mod Updated
+pub mod Walked
+pub mod Entries
+pub mod Placed

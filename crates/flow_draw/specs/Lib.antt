@@ -1,0 +1,4 @@
+pub mod Noted
+pub mod Around
+pub mod Drawn
+pub mod Drawings

@@ -1,0 +1,11 @@
+//! The flow of a source, drawn statement by statement.
+#![tactic(auto)]
+
+pub mod actions;
+pub mod source;
+#[cfg(test)]
+mod tests;
+pub mod walk;
+
+pub use source::flow;
+pub use walk::Walk;

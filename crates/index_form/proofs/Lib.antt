@@ -1,0 +1,4 @@
+pub mod Chains
+pub mod Seeing
+pub mod Offsetting
+pub mod Placed
