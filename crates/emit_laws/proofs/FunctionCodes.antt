@@ -17,12 +17,17 @@ use Rattle.emit_laws.proofs.Items.{glue, item_of, total, items_in, function_item
 use Rattle.emit_laws.proofs.Placed.{sum2, item_total, HasItems, front, back, run_of, outside_lies}
 use Rattle.emit_laws.proofs.PlacedStatements.{total_in, FormedIn, lie}
 
+-- how many sites come before the function with this number, of which so many before the first
+abbrev pub sites_before : (s : ℕ) → List Function → (function : ℕ) → ℕ
+sites_before s [] f = s
+sites_before s (g ∷ more) zero = s
+sites_before s (g ∷ more) (suc f) = sites_before (s + accesses_in g.body) more f
+
 module _ (c : Setup) (plan : Plan) (waits : (t : ℕ) → c.waits t ≡ waits_at plan t) (one_way : (site : ℕ) → c.one_way site ≡ goes_one_way plan site) where
-  -- the function's code, where its first point is k
-  pub record CodeAt (g : Function) (k : ℕ) (row : FnRow) : Type 0 where
+  -- the function's code, where its first point is k, and so many sites come before it
+  pub record CodeAt (g : Function) (k sites : ℕ) (row : FnRow) : Type 0 where
     pub params : row.params ≡ length g.params
     pub room : row.locals ≡ length g.params + length g.others
-    pub sites : ℕ
     pub end : ℕ
     pub last : ℕ
     pub over : ℕ
@@ -42,7 +47,7 @@ module _ (c : Setup) (plan : Plan) (waits : (t : ℕ) → c.waits t ≡ waits_at
   row_of g pc = record { start = pc; params = length g.params; locals = locals_of g }
 
   code_at : (g : Function) (k s pc : ℕ) → FunctionFormed g k s → HasItems c plan waits one_way pc (function_items plan g k s pc)
-      → CodeAt g k (record { start = pc; params = length g.params; locals = locals_of g })
+      → CodeAt g k s (record { start = pc; params = length g.params; locals = locals_of g })
   code_at g k s pc formed h =
       let t = k + 1 + size_of g.body in
       let end = pc + width_in plan g.body (k + 1) in
@@ -52,7 +57,6 @@ module _ (c : Setup) (plan : Plan) (waits : (t : ℕ) → c.waits t ≡ waits_at
       record {
         params = refl;
         room = refl;
-        sites = s;
         end = end;
         last = end + 1;
         over = end + 1 + run_width plan t 1;
@@ -70,12 +74,12 @@ module _ (c : Setup) (plan : Plan) (waits : (t : ℕ) → c.waits t ≡ waits_at
 
   -- the function with this number
   pub codes_at : (fs : List Function) (k s pc f : ℕ) (g : Function) → AllFormed fs k s → HasItems c plan waits one_way pc (functions_items plan fs k s pc)
-      → slice_get fs f ≡ Some g → (row : FnRow) × (slice_get (rows_from plan fs k pc) f ≡ Some row) × CodeAt g (first_from k fs f) row
+      → slice_get fs f ≡ Some g → (row : FnRow) × (slice_get (rows_from plan fs k pc) f ≡ Some row) × CodeAt g (first_from k fs f) (sites_before s fs f) row
   codes_at [] k s pc f g formed h e = absurd (cc)
   codes_at (x ∷ more) k s pc zero g formed h e =
       let same : x ≡ g = cc in
       let row : FnRow = record { start = pc; params = length x.params; locals = locals_of x } in
-      (row, refl, subst (λ y. CodeAt y k row) same (code_at x k s pc formed.0 (front c plan waits one_way pc _ _ h)))
+      (row, refl, subst (λ y. CodeAt y k s row) same (code_at x k s pc formed.0 (front c plan waits one_way pc _ _ h)))
   codes_at (x ∷ more) k s pc (suc f) g formed h e =
       codes_at more (k + size_of x.body + 2) (s + accesses_in x.body) (pc + width_of plan x k) f g formed.1
       (back c plan waits one_way pc (pc + width_of plan x k) (function_items plan x k s pc) _ (ap (λ n. pc + n) (sym (function_total x k s pc))) h) e

@@ -14,7 +14,7 @@ use Rattle.site_graph.specs.Plans.{waits_at, Uses, IsPlan, WaitsInTime}
 use Rattle.flow_form.specs.FlowOf.{returns, flow_of}
 use Rattle.node_emit.specs.Runs.{goes_one_way}
 use Rattle.node_emit.specs.Sources.{locals_of}
-use Rattle.node_emit.specs.Law.{is_empty, told_of, DoesAsSource, BeginsInMain}
+use Rattle.node_emit.specs.Law.{is_empty, told_of, played_of, DoesAsSource, Reaches, BeginsInMain}
 use Rattle.node_emit.specs.Spelled.{Piece}
 use Rattle.node_emit.specs.Stands.{stands_at}
 use Rattle.node_emit.specs.Pointed.{code_points}
@@ -22,7 +22,7 @@ use Rattle.node_emit.specs.Oracles.{plays, at_first}
 use Rattle.emit_laws.proofs.Parts.{Setup, FunctionAt}
 use Rattle.emit_laws.proofs.Openings.{IsReadAt, IsOpen, opens, opens_on, waited_there, waits_within}
 use Rattle.emit_laws.proofs.Standing.{Timely}
-use Rattle.emit_laws.proofs.Whole.{does_as_source}
+use Rattle.emit_laws.proofs.Whole.{does_as_source, reaches_source}
 
 -- a site whose read fills the local of the function
 pub record IsFilling (graph : Graph) (fn local site : ℕ) : Type 0 where
@@ -83,3 +83,12 @@ module _ (layout : Arrangement) (program : Program) (plan : Plan) (code : Code) 
       (λ oracle many. plays oracle (is_empty program) at_first (code_points code layout plan pieces between node budget many))
   does node budget is_plan in_time sites texts tells functions g is_main no_params goes begins =
       does_as_source (setup node) (timely node is_plan in_time sites texts tells) functions g is_main no_params goes begins plan pieces (λ pc. refl) budget
+
+  -- And what the source shows it shows.
+  pub reaches : (node budget : ℕ) → IsPlan graph plan → WaitsInTime graph plan → length graph.sites ≡ code.sites → code.texts ≡ program.texts → TellsEmpty
+      → ((f : ℕ) (g : Function) → slice_get program.functions f ≡ Some g → FunctionAt (setup node) f g)
+      → (g : Function) → slice_get program.functions program.main ≡ Some g → g.params ≡ [] → Goes graph 0 (first_point program.functions program.main)
+      → BeginsInMain program code
+      → Reaches (told_of layout program node budget) (played_of layout program plan code pieces between node budget)
+  reaches node budget is_plan in_time sites texts tells functions g is_main no_params goes begins =
+      reaches_source (setup node) (timely node is_plan in_time sites texts tells) functions g is_main no_params goes begins plan pieces (λ pc. refl) budget

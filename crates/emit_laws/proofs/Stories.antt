@@ -4,11 +4,17 @@ use Rattle.resumption.specs.Resumption.{Short, after_event, after_text}
 use Rattle.node_emit.specs.Oracles.{Shown, Story, at, nothing_more, at_point}
 use Rattle.node_emit.specs.Law.{IsFront, Agree, IsBegun}
 
+-- the one is shown in the other, with enough instructions
+abbrev pub IsShown : (told : Story) → (played : ℕ → Story) → Type 0
+IsShown told played =
+    (enough : ℕ) × ((many : ℕ) → enough ≤ many → IsFront told.events (played many).events × IsFront told.text (played many).text)
+
 pub record Shows (told : Story) (played : ℕ → Story) : Type 0 where
   pub whole : told.end ≢ Short → (enough : ℕ) × ((many : ℕ) → enough ≤ many → played many ≡ told)
   pub begins : (many : ℕ) → told.end ≢ Short → IsBegun (played many) told
   pub agree : (many : ℕ) → Agree (played many).events told.events
   pub texts_agree : (many : ℕ) → Agree (played many).text told.text
+  pub reaches : IsShown told played
 
 front_all : {A : Type 0} (xs : List A) → IsFront xs xs
 front_all xs = (([]), sym (append_nil xs))
@@ -42,6 +48,7 @@ shows_event e told played h = record {
   };
   agree = λ many. agree_cons e (played many).events told.events (h.agree many);
   texts_agree = h.texts_agree;
+  reaches = let r = h.reaches in (r.0, λ many le. let f = r.1 many le in (front_cons e told.events (played many).events f.0, f.1));
 }
 
 pub shows_text : (t : List ℕ) (told : Story) (played : ℕ → Story) → Shows told played → Shows (after_text t told) (λ many. after_text t (played many))
@@ -54,6 +61,7 @@ shows_text t told played h = record {
   };
   agree = h.agree;
   texts_agree = λ many. agree_on t (played many).text told.text (h.texts_agree many);
+  reaches = let r = h.reaches in (r.0, λ many le. let f = r.1 many le in (f.0, front_on t told.text (played many).text f.1));
 }
 
 pub shows_point : (empty : ℕ → Bool) (t : ℕ) (told : Story) (played : ℕ → Story) → Shows told played
@@ -70,6 +78,7 @@ shows_end told = record {
   begins = λ many n. record { events = front_all told.events; text = front_all told.text; over = λ ended. refl };
   agree = λ many. inl (front_all told.events);
   texts_agree = λ many. inl (front_all told.text);
+  reaches = (0, λ many le. (front_all told.events, front_all told.text));
 }
 
 -- where the source's story stops short nothing more is known
@@ -79,6 +88,7 @@ shows_short played = record {
   begins = λ many n. absurd (n refl);
   agree = λ many. inr ((played many).events, refl);
   texts_agree = λ many. inr ((played many).text, refl);
+  reaches = (0, λ many le. (((played many).events, refl), ((played many).text, refl)));
 }
 
 -- one instruction more
@@ -88,8 +98,15 @@ shows_later told played next first then_ h = record {
   begins = λ many n. begins_by n many;
   agree = agree_by;
   texts_agree = texts_by;
+  reaches = let r = h.reaches in (suc r.0, λ many le. shown_by r.0 r.1 many le);
 }
   where
+    shown_by : (enough : ℕ) → ((many : ℕ) → enough ≤ many → IsFront told.events (next many).events × IsFront told.text (next many).text)
+        → (many : ℕ) → suc enough ≤ many → IsFront told.events (played many).events × IsFront told.text (played many).text
+    shown_by enough w zero le = absurd (omega (arith, le))
+    shown_by enough w (suc many) le =
+        subst (λ (s : Story). IsFront told.events s.events × IsFront told.text s.text) (sym (then_ many)) (w many (omega (arith, le)))
+
     by_number : (enough : ℕ) → ((many : ℕ) → enough ≤ many → next many ≡ told) → (many : ℕ) → suc enough ≤ many → played many ≡ told
     by_number enough w zero le = absurd (omega (arith, le))
     by_number enough w (suc many) le = then_ many ∙ w many (omega (arith, le))
@@ -113,4 +130,7 @@ shows_as told told' played played' e f h =
       begins = λ many n. subst (λ s. IsBegun s told') (sym (f many)) (h.begins many n);
       agree = λ many. subst (λ (s : Story). Agree s.events told'.events) (sym (f many)) (h.agree many);
       texts_agree = λ many. subst (λ (s : Story). Agree s.text told'.text) (sym (f many)) (h.texts_agree many);
+      reaches =
+          let r = h.reaches in
+          (r.0, λ many le. subst (λ (s : Story). IsFront told'.events s.events × IsFront told'.text s.text) (sym (f many)) (r.1 many le));
     })

@@ -9,11 +9,11 @@ use Rattle.sc_core.specs.Core.{Function}
 use Rattle.sc_meaning.specs.Meaning.{pointed, begun}
 use Rattle.sc_meaning.specs.Points.{first_point}
 use Rattle.site_graph.specs.declared.plan.Plan.{Plan}
-use Rattle.node_emit.specs.Law.{is_empty, DoesAsSource}
+use Rattle.node_emit.specs.Law.{is_empty, DoesAsSource, Reaches}
 use Rattle.node_emit.specs.Spelled.{Piece}
 use Rattle.node_emit.specs.Stands.{stands_at}
 use Rattle.node_emit.specs.Pointed.{points_from}
-use Rattle.node_emit.specs.Oracles.{Oracle, plays, tells, at_first, told_at_first}
+use Rattle.node_emit.specs.Oracles.{Oracle, Story, plays, tells, at_first, told_at_first}
 use Rattle.emit_laws.proofs.Parts.{Setup, FunctionAt}
 use Rattle.emit_laws.proofs.Ghosts.{called_with}
 use Rattle.emit_laws.proofs.Masks.{mask_slots, state_of}
@@ -70,19 +70,26 @@ module _ (c : Setup) (timely : Timely c) (functions : (f : ℕ) (g : Function) �
       (λ u goes. tt) h d (direct true)))
 
   module _ (plan : Plan) (pieces : List Piece) (stands : (pc : ℕ) → c.stands pc ≡ stands_at plan pieces pc) where
-    pub does_as_source : (budget : ℕ) → DoesAsSource
-        (λ oracle. tells oracle (is_empty c.here.program) told_at_first (pointed c.here budget))
-        (λ oracle many. plays oracle (is_empty c.here.program) at_first (points_from c.code c.here.layout plan pieces c.between c.here.node many 0 (begin c.code budget)))
+    abbrev told_by : (budget : ℕ) → Oracle → Story
+    told_by budget oracle = tells oracle (is_empty c.here.program) told_at_first (pointed c.here budget)
+
+    abbrev played_by : (budget : ℕ) → Oracle → (many : ℕ) → Story
+    played_by budget oracle many =
+        plays oracle (is_empty c.here.program) at_first (points_from c.code c.here.layout plan pieces c.between c.here.node many 0 (begin c.code budget))
+
+    shows : (budget : ℕ) (oracle : Oracle) → Shows (told_by budget oracle) (played_by budget oracle)
+    shows budget oracle =
+        shown_at c plan pieces stands oracle (record { at = 0; left = []; own = true; accesses = 0; flying = [] }) (begin c.code budget)
+        (begun c.here (slice_get c.here.program.functions c.here.program.main) budget)
+        (at_beginning oracle.value (stories c plan pieces stands oracle) budget) 0
+
+    pub does_as_source : (budget : ℕ) → DoesAsSource (told_by budget) (played_by budget)
     does_as_source budget = record {
-      whole = λ oracle n. (shows oracle).whole n;
-      begins = λ oracle many n. (shows oracle).begins many n;
-      agree = λ oracle many. (shows oracle).agree many;
-      texts_agree = λ oracle many. (shows oracle).texts_agree many;
+      whole = λ oracle n. (shows budget oracle).whole n;
+      begins = λ oracle many n. (shows budget oracle).begins many n;
+      agree = λ oracle many. (shows budget oracle).agree many;
+      texts_agree = λ oracle many. (shows budget oracle).texts_agree many;
     }
-      where
-        shows : (oracle : Oracle) → Shows (tells oracle (is_empty c.here.program) told_at_first (pointed c.here budget))
-            (λ many. plays oracle (is_empty c.here.program) at_first (points_from c.code c.here.layout plan pieces c.between c.here.node many 0 (begin c.code budget)))
-        shows oracle =
-            shown_at c plan pieces stands oracle (record { at = 0; left = []; own = true; accesses = 0; flying = [] }) (begin c.code budget)
-            (begun c.here (slice_get c.here.program.functions c.here.program.main) budget)
-            (at_beginning oracle.value (stories c plan pieces stands oracle) budget) 0
+
+    pub reaches_source : (budget : ℕ) → Reaches (told_by budget) (played_by budget)
+    reaches_source budget oracle = (shows budget oracle).reaches

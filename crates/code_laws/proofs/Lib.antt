@@ -1,0 +1,12 @@
+pub mod Compiled
+pub mod Bodies
+pub mod Quiet
+pub mod Between
+pub mod Shapes
+pub mod Flowing
+pub mod Firsts
+pub mod FunctionsPlaced
+pub mod Ordered
+pub mod Spelling
+pub mod SpelledWhole
+pub mod Compilation

@@ -1,0 +1,13 @@
+pub mod Listed
+pub mod Oracled
+pub mod Answers
+pub mod Played
+pub mod Stories
+pub mod SourceAnswers
+pub mod SourceShown
+pub mod Telling
+pub mod EffectsFit
+pub mod PairedRuns
+pub mod Requested
+pub mod Making
+pub mod Waiting

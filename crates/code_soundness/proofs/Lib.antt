@@ -1,0 +1,11 @@
+pub mod Nexts
+pub mod Forward
+pub mod Stays
+pub mod Ranks
+pub mod Numbers
+pub mod Lawfully
+pub mod Safe
+pub mod Landings
+pub mod Reaching
+pub mod SoundCode
+pub mod OfSources

@@ -1,0 +1,3 @@
+pub mod EachPart
+pub mod FirstPoints
+pub mod FlowFacts

@@ -1,0 +1,5 @@
+use Rattle.flow_facts.proofs.FlowFacts.{firsts_are_called}
+use Rattle.flow_facts.proofs.firsts_are_called.Goals as goal
+
+pub returns : goal.returns
+returns c = firsts_are_called

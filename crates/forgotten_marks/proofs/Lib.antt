@@ -1,0 +1,10 @@
+pub mod Marks
+pub mod Well
+pub mod ToldRuns
+pub mod PlayedRuns
+pub mod ByOracles
+pub mod Steps
+pub mod OpAsks
+pub mod Promised
+pub mod Counted
+pub mod RunsPlayed
