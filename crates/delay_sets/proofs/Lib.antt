@@ -2,3 +2,4 @@ pub mod Paths
 pub mod Composing
 pub mod Before
 pub mod Backs
+pub mod OrderLaws

@@ -2,3 +2,4 @@ pub mod Delays
 pub mod Relations
 pub mod Preceding
 pub mod Backing
+pub mod OfOrder

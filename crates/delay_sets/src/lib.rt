@@ -2,7 +2,12 @@
 #![tactic(auto)]
 
 pub mod analysis;
+pub mod laws;
 pub mod preceding;
 pub mod relations;
 
 pub use analysis::delays;
+pub use laws::delays_are_of_order;
+
+#[cfg(test)]
+mod tests;

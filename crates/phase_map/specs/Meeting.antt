@@ -37,4 +37,5 @@ pub record ArePhases (graph : Graph) (aligned : Bool) (meets : Bits) : Type 0 wh
 
 -- the early phases, in which all sites meet
 pub record AllMeet (graph : Graph) (meets : Bits) : Type 0 where
-  pub meets_is : IsOf (length graph.sites + 1) (length graph.sites + 1) (λ a b. IsSiteOf graph a × IsSiteOf graph b) meets
+  pub meets_is : IsOf (length graph.sites + 1) (length graph.sites + 1)
+      (λ a b. IsSiteOf graph a × IsSiteOf graph b) meets

@@ -1,9 +1,9 @@
--- Where nodes may part: the points at which they may take different ways, and the locals that may differ from node to node,
--- as least sets. After the barrier analysis of Kamil and Yelick, "Concurrency analysis for parallel programs with textually
--- aligned barriers" (2005).
-use Rattle.std.specs.Prelude.{◌≡◌, ◌≢◌, ◌⊎◌, ℕ, ◌^◌, ◌-◌, Contains, Some, slice_get, true}
+-- Where nodes may part: the points at which they may take different ways, and the locals that may differ from node to
+-- node, as least sets. After the barrier analysis of Kamil and Yelick, "Concurrency analysis for parallel programs with
+-- textually aligned barriers" (2005).
+use Rattle.std.specs.Prelude.{◌≡◌, ◌≢◌, ℕ, Contains, Some, slice_get}
 use Rattle.site_graph.specs.declared.point.Point.{Point}
-use Rattle.site_graph.specs.declared.point.PointKind.TheVariants.{Start, Call, Return}
+use Rattle.site_graph.specs.declared.point.PointKind.TheVariants.{Call, Return}
 use Rattle.site_graph.specs.Graph.{Graph, kind_at}
 use Rattle.site_graph.specs.Ways.{Goes, Clear}
 use Rattle.site_graph.specs.declared.point.TheConstants.{NODE_MARK}
@@ -28,7 +28,8 @@ mutual
   -- the point branches, and nodes may go on differently behind it
   pub data UnevenPoint (graph : Graph) : ℕ → Type 0 where
     returns : (t : ℕ) → Branches graph t → kind_at graph t ≡ Return → UnevenPoint graph t
-    reads_mark : (t : ℕ) (p : Point) → Branches graph t → IsPoint graph t p → Contains p.reads NODE_MARK → UnevenPoint graph t
+    reads_mark : (t : ℕ) (p : Point) → Branches graph t → IsPoint graph t p → Contains p.reads NODE_MARK
+        → UnevenPoint graph t
     reads_local : (t x : ℕ) (p : Point) → Branches graph t → IsPoint graph t p → Contains p.reads x → x ≢ NODE_MARK
         → UnevenLocal graph p.function x → UnevenPoint graph t
 
@@ -36,8 +37,9 @@ mutual
   pub data UnevenLocal (graph : Graph) : (function local : ℕ) → Type 0 where
     of_called : (f x : ℕ) → (IsOfMain graph f → ⊥) → UnevenLocal graph f x
     main_called : (f x : ℕ) → MainIsCalled graph → UnevenLocal graph f x
-    set_by_mark : (w x : ℕ) (p : Point) → IsPoint graph w p → p.writes ≡ Some x → Contains p.reads NODE_MARK → UnevenLocal graph p.function x
+    set_by_mark : (w x : ℕ) (p : Point) → IsPoint graph w p → p.writes ≡ Some x → Contains p.reads NODE_MARK
+        → UnevenLocal graph p.function x
     set_by_local : (w x y : ℕ) (p : Point) → IsPoint graph w p → p.writes ≡ Some x → Contains p.reads y → y ≢ NODE_MARK
         → UnevenLocal graph p.function y → UnevenLocal graph p.function x
-    set_behind : (u w x : ℕ) (p : Point) → UnevenPoint graph u → Clear graph u w → IsPoint graph w p → p.writes ≡ Some x
-        → UnevenLocal graph p.function x
+    set_behind : (u w x : ℕ) (p : Point) → UnevenPoint graph u → Clear graph u w → IsPoint graph w p
+        → p.writes ≡ Some x → UnevenLocal graph p.function x
