@@ -162,7 +162,7 @@ module _ (c : Source) where
           subst (λ (gs : List Function). Finds gs n d) (sym (cores-some f fs all e))
           (first all further n (subst (λ (ds : List Definition). slice_get ds n ≡ Some d) (definitions-some f fs all e) x))
 
-  cores-count : (fs : List PlainFunction) → length (cores fs) ≡ length (definitions_of fs)
+  pub cores-count : (fs : List PlainFunction) → length (cores fs) ≡ length (definitions_of fs)
   cores-count [] = refl
   cores-count (f ∷ fs) = go f.body refl (cores-count fs)
     where

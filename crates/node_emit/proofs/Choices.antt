@@ -58,59 +58,59 @@ pub choice-wrote : (plan : Plan) (of_pointer : Bool) (test on off : ℕ → ℕ 
     ((s pc : ℕ) → length (off (d.point + pt + 1 + pn) s pc) ≡ wf) →
     (at_on at_off end : ℕ) → at_on ≡ length d.instrs + wt + run_width plan (d.point + pt) (test_width of_pointer) →
     at_off ≡ at_on + wn + 1 → end ≡ at_off + wf →
-    let D1 : List Instr = d.instrs ++ test d.point d.sites (length d.instrs) ++ run plan (d.point + pt) 0 (test_ops of_pointer 0) in
-    let D2 : List Instr = D1 ++ on (d.point + pt + 1) (d.sites + st + 0) (length D1) in
-    let D3 : List Instr = set (D2 ++ outside (Jump 0) ∷ []) (length D1 - 1) (instr 0 (Zero (length D2 + 1))) in
-    let D4 : List Instr = D3 ++ off (d.point + pt + 1 + pn + 0) (d.sites + st + 0 + sn + 0) (length D3) in
+    let after_test : List Instr = d.instrs ++ test d.point d.sites (length d.instrs) ++ run plan (d.point + pt) 0 (test_ops of_pointer 0) in
+    let with_on : List Instr = after_test ++ on (d.point + pt + 1) (d.sites + st + 0) (length after_test) in
+    let patched : List Instr = set (with_on ++ outside (Jump 0) ∷ []) (length after_test - 1) (instr 0 (Zero (length with_on + 1))) in
+    let with_off : List Instr = patched ++ off (d.point + pt + 1 + pn + 0) (d.sites + st + 0 + sn + 0) (length patched) in
     d.instrs ++ (test d.point d.sites (length d.instrs) ++ run plan (d.point + pt) 0 (test_ops of_pointer at_off)
     ++ on (d.point + pt + 1) (d.sites + st) at_on ++ outside (Jump end) ∷ off (d.point + pt + 1 + pn) (d.sites + st + sn) at_off)
-    ≡ set D4 (length D2) (outside (Jump (length D4)))
+    ≡ set with_off (length with_on) (outside (Jump (length with_off)))
 choice-wrote plan p test on off pt st pn sn pf sf wt wn wf d ht hn hf at_on at_off end h1 h2 h3 =
     let c0 : List Instr = test d.point d.sites (length d.instrs) in
     let t : ℕ = d.point + pt in
     let r0 : List Instr = run plan t 0 (test_ops p 0) in
-    let D1 : List Instr = d.instrs ++ c0 ++ r0 in
-    let l1 : length D1 ≡ at_on =
+    let after_test : List Instr = d.instrs ++ c0 ++ r0 in
+    let l1 : length after_test ≡ at_on =
     simp length-append (let a = length-test_run plan t p 0 in let b = simp length-append at a in omega (arith, ht, h1, b)) in
     let z : Instr = instr 0 (Zero 0) in
     let j : Instr = outside (Jump 0) in
-    let C1 : List Instr = on (t + 1) (d.sites + st + 0) (length D1) in
-    let C0 : List Instr = on (t + 1) (d.sites + st) at_on in
+    let on_here : List Instr = on (t + 1) (d.sites + st + 0) (length after_test) in
+    let on_there : List Instr = on (t + 1) (d.sites + st) at_on in
     let s1 : d.sites + st + 0 ≡ d.sites + st = omega arith in
-    let e1 : C1 ≡ C0 = ap (λ s. on (t + 1) s (length D1)) s1 ∙ ap (on (t + 1) (d.sites + st)) l1 in
-    let D2 : List Instr = D1 ++ C1 in
-    let z1 : Instr = instr 0 (Zero (length D2 + 1)) in
-    let l2 : length D2 + 1 ≡ at_off =
-    let a = length-append D1 C1 in let b = hn (d.sites + st + 0) (length D1) in omega (arith, a, b, l1, h2) in
-    let D3 : List Instr = set (D2 ++ j ∷ []) (length D1 - 1) z1 in
-    let l3 : length D3 ≡ at_off =
-    let a = length-set (D2 ++ j ∷ []) (length D1 - 1) z1 in let b = length-append D2 (j ∷ []) in omega (arith, a, b, l2) in
-    let F1 : List Instr = off (t + 1 + pn + 0) (d.sites + st + 0 + sn + 0) (length D3) in
-    let F0 : List Instr = off (t + 1 + pn) (d.sites + st + sn) at_off in
+    let e1 : on_here ≡ on_there = ap (λ s. on (t + 1) s (length after_test)) s1 ∙ ap (on (t + 1) (d.sites + st)) l1 in
+    let with_on : List Instr = after_test ++ on_here in
+    let z1 : Instr = instr 0 (Zero (length with_on + 1)) in
+    let l2 : length with_on + 1 ≡ at_off =
+    let a = length-append after_test on_here in let b = hn (d.sites + st + 0) (length after_test) in omega (arith, a, b, l1, h2) in
+    let patched : List Instr = set (with_on ++ j ∷ []) (length after_test - 1) z1 in
+    let l3 : length patched ≡ at_off =
+    let a = length-set (with_on ++ j ∷ []) (length after_test - 1) z1 in let b = length-append with_on (j ∷ []) in omega (arith, a, b, l2) in
+    let off_here : List Instr = off (t + 1 + pn + 0) (d.sites + st + 0 + sn + 0) (length patched) in
+    let off_there : List Instr = off (t + 1 + pn) (d.sites + st + sn) at_off in
     let p2 : t + 1 + pn + 0 ≡ t + 1 + pn = omega arith in
     let s2 : d.sites + st + 0 + sn + 0 ≡ d.sites + st + sn = omega arith in
-    let e2 : F1 ≡ F0 =
-    ap (λ k. off k (d.sites + st + 0 + sn + 0) (length D3)) p2 ∙ ap (λ s. off (t + 1 + pn) s (length D3)) s2
+    let e2 : off_here ≡ off_there =
+    ap (λ k. off k (d.sites + st + 0 + sn + 0) (length patched)) p2 ∙ ap (λ s. off (t + 1 + pn) s (length patched)) s2
     ∙ ap (off (t + 1 + pn) (d.sites + st + sn)) l3 in
-    let l4 : length (D3 ++ F1) ≡ end =
-    let a = length-append D3 F1 in let b = ap length e2 in let c = hf (d.sites + st + sn) at_off in
+    let l4 : length (patched ++ off_here) ≡ end =
+    let a = length-append patched off_here in let b = ap length e2 in let c = hf (d.sites + st + sn) at_off in
     omega (arith, a, b, c, l3, h3) in
     let r : List Instr = test_front plan t p in
     let e0 : r0 ≡ r ++ z ∷ [] = test-run plan t p 0 in
-    let j1 : Instr = outside (Jump (length (D3 ++ F1))) in
-    let f : length D1 - 1 + 1 ≡ length ((d.instrs ++ c0) ++ (r ++ z ∷ [])) =
-    let a : length D1 ≡ length ((d.instrs ++ c0) ++ (r ++ z ∷ [])) = ap (λ q. length ((d.instrs ++ c0) ++ q)) e0 in
+    let j1 : Instr = outside (Jump (length (patched ++ off_here))) in
+    let f : length after_test - 1 + 1 ≡ length ((d.instrs ++ c0) ++ (r ++ z ∷ [])) =
+    let a : length after_test ≡ length ((d.instrs ++ c0) ++ (r ++ z ∷ [])) = ap (λ q. length ((d.instrs ++ c0) ++ q)) e0 in
     let b = length-append (d.instrs ++ c0) (r ++ z ∷ []) in let c = length-append r (z ∷ []) in
     omega (arith, a, b, c) in
-    let g : length D2 ≡ length (((d.instrs ++ c0) ++ (r ++ z ∷ [])) ++ C1) = ap (λ q. length (((d.instrs ++ c0) ++ q) ++ C1)) e0 in
+    let g : length with_on ≡ length (((d.instrs ++ c0) ++ (r ++ z ∷ [])) ++ on_here) = ap (λ q. length (((d.instrs ++ c0) ++ q) ++ on_here)) e0 in
     sym
-    (ap (λ q. set (set ((((d.instrs ++ c0) ++ q) ++ C1) ++ j ∷ []) (length D1 - 1) z1 ++ F1) (length D2) j1) e0
-    ∙ choice-lists d.instrs c0 r C1 F1 z z1 j j1 (length D1 - 1) (length D2) f g
-    ∙ ap (λ n. d.instrs ++ (((c0 ++ (r ++ instr 0 (Zero n) ∷ [])) ++ C1) ++ (j1 ∷ F1))) l2
-    ∙ ap (λ q. d.instrs ++ (((c0 ++ q) ++ C1) ++ (j1 ∷ F1))) (sym (test-run plan t p at_off))
-    ∙ ap (λ q. d.instrs ++ (((c0 ++ run plan t 0 (test_ops p at_off)) ++ q) ++ (j1 ∷ F1))) e1
-    ∙ ap (λ n. d.instrs ++ (((c0 ++ run plan t 0 (test_ops p at_off)) ++ C0) ++ (outside (Jump n) ∷ F1))) l4
-    ∙ ap (λ q. d.instrs ++ (((c0 ++ run plan t 0 (test_ops p at_off)) ++ C0) ++ (outside (Jump end) ∷ q))) e2)
+    (ap (λ q. set (set ((((d.instrs ++ c0) ++ q) ++ on_here) ++ j ∷ []) (length after_test - 1) z1 ++ off_here) (length with_on) j1) e0
+    ∙ choice-lists d.instrs c0 r on_here off_here z z1 j j1 (length after_test - 1) (length with_on) f g
+    ∙ ap (λ n. d.instrs ++ (((c0 ++ (r ++ instr 0 (Zero n) ∷ [])) ++ on_here) ++ (j1 ∷ off_here))) l2
+    ∙ ap (λ q. d.instrs ++ (((c0 ++ q) ++ on_here) ++ (j1 ∷ off_here))) (sym (test-run plan t p at_off))
+    ∙ ap (λ q. d.instrs ++ (((c0 ++ run plan t 0 (test_ops p at_off)) ++ q) ++ (j1 ∷ off_here))) e1
+    ∙ ap (λ n. d.instrs ++ (((c0 ++ run plan t 0 (test_ops p at_off)) ++ on_there) ++ (outside (Jump n) ∷ off_here))) l4
+    ∙ ap (λ q. d.instrs ++ (((c0 ++ run plan t 0 (test_ops p at_off)) ++ on_there) ++ (outside (Jump end) ∷ q))) e2)
 
 pub emitted-choice : (plan : Plan) (of_pointer : Bool) (test on off : Core) (d : Written) →
     emitted plan (choice of_pointer test on off) d

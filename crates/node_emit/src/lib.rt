@@ -9,4 +9,4 @@ mod values;
 mod whole;
 
 pub use error::EmitError;
-pub use whole::emit;
+pub use whole::{check_locals, emit};

@@ -26,8 +26,9 @@ fn locals_of(f: &CoreFunction) -> Result<u32, AllocError>
     Ok(all)
 }
 
-/// That no function has more locals than the limit.
-fn check(core: &CoreProgram) -> Result<(), EmitError>
+/// Ok where no function has more locals than the limit; else the first that has, with their number, its parameters among
+/// them. It also answers want of memory where 32 bits do not count the locals of a function.
+pub fn check_locals(core: &CoreProgram) -> Result<(), EmitError>
     ensures within { OnOk result (AreWithin (plain_program core.now)) }
     ensures refused { IfErr result (λ error. IsRefused (plain_program core.now) error) }
 {
@@ -99,7 +100,7 @@ pub fn emit(alloc: Global, core: &CoreProgram, plan: &Plan) -> Result<Code, Emit
     ensures within { IfOk result (λ _. AreWithin (plain_program core.now)) }
     ensures refused { IfErr result (λ error. IsRefused (plain_program core.now) error) }
 {
-    check(core)?;
+    check_locals(core)?;
     let emitter = Emitter { alloc, plan };
     let mut draft = Draft::new(alloc, 1);
     let rows = emitter.functions(&mut draft, core.functions.as_slice())?;

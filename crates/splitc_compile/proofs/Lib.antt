@@ -1,4 +1,3 @@
-pub mod Lawful
-pub mod OneAnswer
-pub mod Read
-pub mod SomeAnswer
+pub mod Begins
+pub mod Answered
+pub mod Emitted

@@ -1,2 +1,2 @@
-pub mod Accepted
-pub mod Refusals
+pub mod Compiled
+pub mod Answers

@@ -1,12 +1,12 @@
-//! The front end: from the bytes of a source to its typed tree and its layout, or the first refusal.
+//! The compiler: from the bytes of a source to its code, with all that is found on the way.
 #![tactic(auto)]
 
-pub mod accepted;
+pub mod analysed;
+pub mod compiled;
 pub mod laws;
-pub mod refusal;
 
-pub use accepted::{Accepted, accept};
-pub use refusal::{CompileError, Refusal};
+pub use compiled::{Compiled, compile};
+pub use front_end::{CompileError, Refusal};
 
 #[cfg(test)]
 mod tests;

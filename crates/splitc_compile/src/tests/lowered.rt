@@ -1,13 +1,16 @@
 //! The core trees of sources, printed.
 
-use super::DECLARED;
-use crate::{CompileError, accept};
 use core_lower::lower;
+use front_end::{CompileError, accept};
 use sc_core::{
     CoreArms, CoreExpr, CoreExprs, CoreFirst, CoreProgram, CoreStmt, CoreTests, Operation,
 };
 use std::alloc::{AllocError, Global};
 use std::test::Fail;
+
+/// Objects of every kind and two functions, on the first line.
+const DECLARED: &str =
+    "int x; int B[4]; int M[2][3]; int A[4]::; int C[4]::[2]; int D[2][2]::; int *p; int *global g; int *spread s; int **pp; int f(int a, int *q) { return a; } void v() { } splitc_main() {";
 
 /// The arguments, each behind a comma but the first.
 #[cycle(shown)]

@@ -1,5 +1,5 @@
-use Rattle.splitc_compile.proofs.OneAnswer.{refused-once}
+use Rattle.splitc_compile.proofs.Answered.{refused_once}
 use Rattle.splitc_compile.proofs.laws.at_most_one_refusal.Goals as goal
 
 pub returns : goal.returns
-returns c = refused-once
+returns c = refused_once

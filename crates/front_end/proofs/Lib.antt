@@ -1,0 +1,4 @@
+pub mod Lawful
+pub mod OneAnswer
+pub mod Read
+pub mod SomeAnswer
