@@ -2,11 +2,11 @@
 #![tactic(auto)]
 
 pub mod cells;
-mod nodes;
+pub mod nodes;
 mod objects;
 pub mod report;
 pub mod status;
-mod values;
+pub mod values;
 
 pub use cells::Cells;
 pub use report::report_text;

@@ -8,7 +8,8 @@ use run_sim::result::NodeResult;
 use sc_base::{End, FaultKind};
 use std::alloc::{AllocError, Global};
 
-fn fault_name(kind: FaultKind) -> &'static str
+/// The name of the fault.
+pub fn fault_name(kind: FaultKind) -> &'static str
     ensures { result.now ≡ fault_name kind }
 {
     match kind {

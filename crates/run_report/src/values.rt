@@ -40,7 +40,7 @@ fn add_int(to: &mut Vec<u8>, value: i64) -> Result<(), AllocError>
 }
 
 /// Adds the value.
-fn add_value(
+pub fn add_value(
     to: &mut Vec<u8>,
     names: &Names,
     layout: &Layout,

@@ -1,0 +1,3 @@
+pub mod ByEdges
+pub mod Listing
+pub mod Passes
