@@ -8,8 +8,8 @@ use Rattle.sc_base.specs.declared.limits.TheConstants.{LIMITS}
 use Rattle.sc_tree.specs.Names.{Text}
 use Rattle.sc_tree.specs.PlainTypedTree.{PlainTypedTree}
 use Rattle.sc_layout.specs.Layout.{Arrangement}
-use Rattle.splitc_compile.proofs.OneAnswer.{refused-once, accepted-once, accepted-not-refused}
-use Rattle.splitc_compile.specs.declared.refusal.Refusal.{Refusal}
+use Rattle.front_end.proofs.OneAnswer.{refused-once, accepted-once, accepted-not-refused}
+use Rattle.front_end.specs.declared.refusal.Refusal.{Refusal}
 use Rattle.tree_run.specs.Built.{is_built}
 use Rattle.splitc_top.specs.declared.words.Command.{Command}
 use Rattle.splitc_top.specs.declared.reason.Reason.{Reason}

@@ -8,11 +8,11 @@ use Rattle.sc_base.specs.declared.limits.TheConstants.{LIMITS}
 use Rattle.sc_tree.specs.Names.{Text}
 use Rattle.sc_tree.specs.PlainTypedTree.{PlainTypedTree}
 use Rattle.sc_layout.specs.Layout.{Arrangement}
-use Rattle.splitc_compile.specs.Accepted.{IsAccepted, Says}
-use Rattle.splitc_compile.specs.declared.refusal.CompileError.{CompileError}
-use Rattle.splitc_compile.specs.declared.refusal.CompileError.TheVariants as compile
-use Rattle.splitc_compile.specs.declared.refusal.Refusal.{Refusal}
-use Rattle.splitc_compile.specs.declared.refusal.Refusal.TheVariants as refusal
+use Rattle.front_end.specs.Accepted.{IsAccepted, Says}
+use Rattle.front_end.specs.declared.refusal.CompileError.{CompileError}
+use Rattle.front_end.specs.declared.refusal.CompileError.TheVariants as compile
+use Rattle.front_end.specs.declared.refusal.Refusal.{Refusal}
+use Rattle.front_end.specs.declared.refusal.Refusal.TheVariants as refusal
 use Rattle.tree_run.specs.Built.{is_built}
 use Rattle.run_report.specs.Report.{line}
 use Rattle.splitc_top.specs.Words.{nodes_of}
@@ -37,6 +37,8 @@ refusal_line (refusal.BadBound at) = line (codes "splitc: bad bound on line " ++
 refusal_line (refusal.TooManyCells cells) = line (codes "splitc: too many cells: " ++ decimal cells)
 refusal_line (refusal.Rule number at) =
     codes "splitc: rule " ++ decimal number ++ codes " on line " ++ line (decimal at)
+refusal_line (refusal.TooManySites count) = line (codes "splitc: too many sites: " ++ decimal count)
+refusal_line (refusal.TooManyLocals count) = line (codes "splitc: too many locals: " ++ decimal count)
 
 abbrev pub reason_line : Reason → List ℕ
 reason_line reason.Words = line (codes "splitc: words")

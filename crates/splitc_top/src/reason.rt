@@ -3,8 +3,8 @@
 ghost use Rattle.std.specs.Prelude.{◌≡◌, IfOk, string_bytes};
 ghost use Rattle.splitc_top.specs.Reasons.{refusal_line, status_of_reason};
 
+use front_end::Refusal;
 use run_report::Status;
-use splitc_compile::Refusal;
 use std::alloc::{AllocError, Global};
 
 /// Why there is no report: the words are outside the written form; the source has more bytes than the limit, is
@@ -49,6 +49,8 @@ pub fn refusal_line(alloc: Global, refusal: Refusal) -> Result<String, AllocErro
         Refusal::BadBound { line } => format!(in alloc; "splitc: bad bound on line {line}\n"),
         Refusal::TooManyCells { cells } => format!(in alloc; "splitc: too many cells: {cells}\n"),
         Refusal::Rule { number, line } => rule_line(alloc, number, line),
+        Refusal::TooManySites { count } => format!(in alloc; "splitc: too many sites: {count}\n"),
+        Refusal::TooManyLocals { count } => format!(in alloc; "splitc: too many locals: {count}\n"),
     }
 }
 
