@@ -1,0 +1,4 @@
+pub mod Numbered
+pub mod Occurred
+pub mod Issues
+pub mod Laws
