@@ -1,0 +1,16 @@
+pub mod Numbers
+pub mod Leading
+pub mod Places
+pub mod Facts
+pub mod Needing
+pub mod StepsAt
+pub mod Chains
+pub mod Marks
+pub mod Keys
+pub mod Each
+pub mod Found
+pub mod Loops
+pub mod Bounds
+pub mod Ways
+pub mod Settled
+pub mod Whole

@@ -1,0 +1,6 @@
+pub mod Lines
+pub mod Steps
+pub mod Kinds
+pub mod Tables
+pub mod Keyed
+pub mod Whole
