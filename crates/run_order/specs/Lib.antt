@@ -1,0 +1,2 @@
+pub mod Orderable
+pub mod Laws
