@@ -1,0 +1,4 @@
+pub mod Taking
+pub mod Following
+pub mod Leading
+pub mod Once
