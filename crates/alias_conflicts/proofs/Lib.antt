@@ -4,3 +4,5 @@ pub mod Finding
 pub mod Reaching
 pub mod SharedCells
 pub mod Tables
+pub mod TwoNodes
+pub mod NodeNumbers

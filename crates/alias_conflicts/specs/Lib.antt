@@ -3,3 +3,4 @@ pub mod Conflicting
 pub mod Regions
 pub mod Firsts
 pub mod Pairs
+pub mod Across

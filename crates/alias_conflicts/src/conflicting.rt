@@ -1,20 +1,16 @@
 //! Which sites conflict.
 
-ghost use Rattle.std.specs.Prelude.{◌≡◌, ◌≢◌, ◌<◌, ◌+◌, ◌↔◌, ℕ, length, IsTrue, IfOk, IfSome, Some, slice_get};
+ghost use Rattle.std.specs.Prelude.{◌≡◌, ◌<◌, ◌+◌, ◌↔◌, length, IsTrue, IfOk};
 ghost use Rattle.sc_layout.specs.Layout.{IsLayout};
-ghost use Rattle.site_graph.specs.Kept.{Names, NamesForm, NamesSite};
-ghost use Rattle.site_graph.specs.Graph.{Graph};
+ghost use Rattle.site_graph.specs.Kept.{Names, NamesSite};
 ghost use Rattle.site_graph.specs.Bits.{IsSet};
-ghost use Rattle.alias_conflicts.specs.May.{Share};
 ghost use Rattle.alias_conflicts.specs.Conflicting.{AreConflicts};
-ghost use Rattle.alias_conflicts.specs.Regions.{FormsShare, IsRegion, IsRegionAt};
-ghost use Rattle.alias_conflicts.specs.Pairs.{IsMarked, ShareAcross, ShareOwn, ShareFrom, AreRowsUpTo};
+ghost use Rattle.alias_conflicts.specs.Pairs.{IsMarked, ShareAcross, ShareOwn, AreRowsUpTo};
 
-use crate::region::{Region, region_of};
-use crate::sharing::overlap;
+use crate::crossing::{forms_across, forms_own};
 use sc_base::OutOfMemory;
 use sc_layout::Layout;
-use site_graph::{BitRows, Conflicts, Flow, Form, Phases, Site};
+use site_graph::{BitRows, Conflicts, Flow, Phases, Site};
 use std::alloc::Global;
 
 /// The pairs (a, b) of sites, which are numbered from 1, that may reach one cell, at least one of them by writing it:
@@ -123,29 +119,9 @@ fn share_across(flow: &Flow, layout: &Layout, a: &Site, b: &Site) -> bool
     requires b { NamesSite (length layout.now.objects) b.now }
     ensures { IsTrue result ↔ ShareAcross layout.now flow.now a.now b.now }
 {
-    for p in 0..layout.nodes() {
-        if share_from(flow, layout, a, p, b) {
-            return true;
-        }
-    }
-    false
-}
-
-/// Whether the first site on the node conflicts with the second on another.
-fn share_from(flow: &Flow, layout: &Layout, a: &Site, p: u32, b: &Site) -> bool
-    requires lawful { IsLayout layout.now }
-    requires names { Names (length layout.now.objects) flow.now }
-    requires a { NamesSite (length layout.now.objects) a.now }
-    requires b { NamesSite (length layout.now.objects) b.now }
-    requires p { p < layout.now.nodes }
-    ensures { IsTrue result ↔ ShareFrom layout.now flow.now a.now p b.now }
-{
-    for q in 0..layout.nodes() {
-        if q != p && share(flow, layout, a, p, b, q) {
-            return true;
-        }
-    }
-    false
+    forms_across(flow, layout, a.writes, b.writes)
+        || forms_across(flow, layout, a.writes, b.reads)
+        || forms_across(flow, layout, a.reads, b.writes)
 }
 
 /// Whether the sites conflict from one node.
@@ -156,62 +132,7 @@ fn share_own(flow: &Flow, layout: &Layout, a: &Site, b: &Site) -> bool
     requires b { NamesSite (length layout.now.objects) b.now }
     ensures { IsTrue result ↔ ShareOwn layout.now flow.now a.now b.now }
 {
-    for p in 0..layout.nodes() {
-        if share(flow, layout, a, p, b, p) {
-            return true;
-        }
-    }
-    false
-}
-
-/// Whether the first site on the node `p` and the second on `q` may reach one cell, at least one of them by writing it.
-fn share(flow: &Flow, layout: &Layout, a: &Site, p: u32, b: &Site, q: u32) -> bool
-    requires lawful { IsLayout layout.now }
-    requires names { Names (length layout.now.objects) flow.now }
-    requires a { NamesSite (length layout.now.objects) a.now }
-    requires b { NamesSite (length layout.now.objects) b.now }
-    requires p { p < layout.now.nodes }
-    requires q { q < layout.now.nodes }
-    ensures { IsTrue result ↔ Share layout.now flow.now a.now b.now p q }
-{
-    forms_share(flow, layout, a.writes, p, b.writes, q)
-        || forms_share(flow, layout, a.writes, p, b.reads, q)
-        || forms_share(flow, layout, a.reads, p, b.writes, q)
-}
-
-/// Whether the first form allows a cell on the node `p` that the second allows on `q`.
-fn forms_share(
-    flow: &Flow,
-    layout: &Layout,
-    a: Option<Form>,
-    p: u32,
-    b: Option<Form>,
-    q: u32,
-) -> bool
-    requires lawful { IsLayout layout.now }
-    requires names { Names (length layout.now.objects) flow.now }
-    requires a { IfSome a (NamesForm (length layout.now.objects)) }
-    requires b { IfSome b (NamesForm (length layout.now.objects)) }
-    requires p { p < layout.now.nodes }
-    requires q { q < layout.now.nodes }
-    ensures { IsTrue result ↔ FormsShare layout.now flow.now a p b q }
-{
-    let Some(first) = region_at(layout, a, p) else {
-        return false;
-    };
-    let Some(second) = region_at(layout, b, q) else {
-        return false;
-    };
-    overlap(layout, flow.exposed.as_slice(), &first, &second)
-}
-
-/// The cells that the form, if there is one, allows on the node.
-fn region_at(layout: &Layout, form: Option<Form>, node: u32) -> Option<Region>
-    requires lawful { IsLayout layout.now }
-    requires node { node < layout.now.nodes }
-    requires names { IfSome form (NamesForm (length layout.now.objects)) }
-    ensures region { IfSome result (IsRegion layout.now) }
-    ensures exact { (graph : Graph) → IsRegionAt layout.now graph form node result }
-{
-    region_of(layout, form?, node)
+    forms_own(flow, layout, a.writes, b.writes)
+        || forms_own(flow, layout, a.writes, b.reads)
+        || forms_own(flow, layout, a.reads, b.writes)
 }

@@ -2,6 +2,8 @@
 #![tactic(auto)]
 
 mod conflicting;
+mod crossing;
+mod nodes;
 mod region;
 mod sharing;
 

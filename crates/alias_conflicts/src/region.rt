@@ -76,14 +76,14 @@ fn indices_of(form: IndexForm, nodes: u32, node: u32) -> Option<Indices>
 }
 
 /// The value of `k * node + c`.
-fn value_of(k: i64, c: i64, node: u32) -> i128
+pub(crate) fn value_of(k: i64, c: i64, node: u32) -> i128
     ensures { result ≡ linear k c node }
 {
     i128::from(k) * i128::from(node) + i128::from(c)
 }
 
 /// The remainder from 0 to `nodes - 1` of the value divided by `nodes`.
-fn remainder_of(value: i128, nodes: u32) -> u32
+pub(crate) fn remainder_of(value: i128, nodes: u32) -> u32
     requires { 0 < nodes }
     ensures { pos result ≡ int_rem_euclid value (pos nodes) }
 {

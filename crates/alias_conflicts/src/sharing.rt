@@ -83,7 +83,7 @@ fn meet(layout: &Layout, object: u32, a: &Region, b: &Region) -> bool
 }
 
 /// Whether the number is the one that is given, where one is.
-fn agrees(given: Option<u32>, number: u32) -> bool
+pub(crate) fn agrees(given: Option<u32>, number: u32) -> bool
     ensures { IsTrue result ↔ Agrees given number }
 {
     match given {

@@ -123,7 +123,7 @@ fn site(before: u32) -> Site {
 /// One of each kind of form after another.
 fn form(before: u32) -> Form {
     let spread = before / 8 % 4;
-    let c = i64::from(before % 7);
+    let c = i64::from(before);
     let index = match before % 8 {
         0 => IndexForm::Linear { k: 1, c },
         1 => IndexForm::Linear { k: 0, c },

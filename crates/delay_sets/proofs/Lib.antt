@@ -3,3 +3,5 @@ pub mod Composing
 pub mod Before
 pub mod Backs
 pub mod OrderLaws
+pub mod ClearWays
+pub mod SiteRows

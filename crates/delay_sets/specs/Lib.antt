@@ -3,3 +3,4 @@ pub mod Relations
 pub mod Preceding
 pub mod Backing
 pub mod OfOrder
+pub mod ClearSites

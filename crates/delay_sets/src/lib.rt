@@ -2,6 +2,7 @@
 #![tactic(auto)]
 
 pub mod analysis;
+pub mod clear;
 pub mod laws;
 pub mod preceding;
 pub mod relations;

@@ -1,13 +1,13 @@
 //! Which access of a node is over before another begins.
 
-ghost use Rattle.std.specs.Prelude.{◌≡◌, ◌<◌, ◌≤◌, ◌+◌, length, IfOk, slice_get, Some};
+ghost use Rattle.std.specs.Prelude.{◌≡◌, ◌<◌, ◌+◌, length, IfOk, false};
 ghost use Rattle.site_graph.specs.Bits.{IsOf};
-ghost use Rattle.site_graph.specs.Graph.{IsAt};
-ghost use Rattle.site_graph.specs.Kept.{IsSiteOf};
+ghost use Rattle.site_graph.specs.Graph.{is_blocking};
 ghost use Rattle.site_graph.specs.Reached.{AreFirsts};
 ghost use Rattle.site_graph.specs.Ways.{Precedes, IsOverBefore};
-ghost use Rattle.delay_sets.specs.Preceding.{AreBarriers, IsWithSites, AreSyncsIn};
+ghost use Rattle.delay_sets.specs.Preceding.{AreBarriers, AreSyncsIn};
 
+use crate::clear::{add_sites, clear_ways, places};
 use sc_base::OutOfMemory;
 use site_graph::{BitRows, Flow, PointKind, Site, first_edges, search, search_any};
 use std::alloc::Global;
@@ -18,13 +18,19 @@ pub fn preceding(alloc: Global, flow: &Flow) -> Result<BitRows, OutOfMemory>
 {
     let firsts = first_edges(alloc, flow)?;
     let barriers = barriers(alloc, flow)?;
+    let places = places(alloc, flow)?;
+    let clear = clear_ways(alloc, flow, &firsts, &places)?;
     let count = flow.sites.as_slice().len() as u32 + 1;
     let mut rows = BitRows::new(alloc, count, count)?;
     for (at, point) in flow.points.as_slice().iter().enumerate() {
         if let PointKind::Access(number) = point.kind {
             let site = flow.site(number);
-            let over = over_at(alloc, flow, &firsts, &site, at as u32, &barriers)?;
-            add_sites(flow, &over, number, &mut rows);
+            if site.kind.is_blocking() {
+                rows.add_common(number, &clear, number, &clear, number);
+            } else {
+                let over = over_at(alloc, flow, &firsts, &site, at as u32, &barriers)?;
+                add_sites(flow, &places, &over, number, &mut rows);
+            }
         }
     }
     Ok(rows)
@@ -44,7 +50,8 @@ fn barriers(alloc: Global, flow: &Flow) -> Result<BitRows, OutOfMemory>
     Ok(rows)
 }
 
-/// Sets, in its one row, the points at which the access of the site is over that began at the point `at`.
+/// Sets, in its one row, the points at which the access of the site, which is not blocking, is over that began at the point
+/// `at`.
 fn over_at(
     alloc: Global,
     flow: &Flow,
@@ -54,13 +61,11 @@ fn over_at(
     barriers: &BitRows,
 ) -> Result<BitRows, OutOfMemory>
     requires firsts { AreFirsts flow.now firsts.now }
+    requires site { is_blocking site.now.kind ≡ false }
     requires at { at < length flow.now.points }
     requires barriers { AreBarriers flow.now barriers.now }
     ensures { IfOk result (IsOf 1 (length flow.now.points) (λ row u. IsOverBefore flow.now site.now at u)) }
 {
-    if site.kind.is_blocking() {
-        return search(alloc, flow, firsts, at, barriers, 0);
-    }
     if site.kind.is_split() {
         let reached = search(alloc, flow, firsts, at, barriers, 1)?;
         let syncs = syncs_in(alloc, flow, &reached)?;
@@ -84,21 +89,4 @@ fn syncs_in(alloc: Global, flow: &Flow, reached: &BitRows) -> Result<Vec<u32>, O
         }
     }
     Ok(syncs)
-}
-
-/// Sets in the row of the site `number` the sites whose points are set in the one row of `over`.
-fn add_sites(flow: &Flow, over: &BitRows, number: u32, rows: &mut BitRows)
-    requires over_rows { over.now.rows ≡ 1 }
-    requires over_columns { over.now.columns ≡ length flow.now.points }
-    requires row { number < rows.old.rows }
-    requires columns { rows.old.columns ≡ length flow.now.sites + 1 }
-    ensures { IsWithSites flow.now over.now number (length flow.now.points) rows.old rows.new }
-{
-    for (at, point) in flow.points.as_slice().iter().enumerate() {
-        if let PointKind::Access(other) = point.kind {
-            if over.get(0, at as u32) {
-                rows.set(number, other);
-            }
-        }
-    }
 }

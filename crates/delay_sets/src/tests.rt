@@ -187,6 +187,12 @@ fn pairs_of_two_nodes(rt: HostRuntime) -> Result<(), Fail> {
             ..dekker
         },
         Case {
+            name: "a store, from which nothing follows",
+            sites: &[SiteKind::Store, READ, WRITE, READ],
+            delays: &[],
+            ..dekker
+        },
+        Case {
             name: "a back-path of three links",
             cross: &[(2, 3), (3, 4), (4, 1)],
             delays: &[(1, 2), (3, 4)],
@@ -255,5 +261,35 @@ fn a_site_and_itself(rt: HostRuntime) -> Result<(), Fail> {
     for case in &cases {
         assert!(rt; is_right(rt.alloc(), case)?, "{}", case.name);
     }
+    Ok(())
+}
+
+#[test]
+fn two_writes_in_a_loop(rt: HostRuntime) -> Result<(), Fail> {
+    let case = Case {
+        name: "each to the same cell of another node",
+        points: &[START, ONE, TWO, RETURN],
+        edges: &[(0, 1), (1, 2), (2, 1), (2, 3)],
+        sites: &[WRITE, WRITE],
+        cross: &[],
+        own: &[(1, 1), (1, 2), (2, 2)],
+        delays: &[(1, 1), (1, 2), (2, 1), (2, 2)],
+    };
+    assert!(rt; is_right(rt.alloc(), &case)?, "{}", case.name);
+    Ok(())
+}
+
+#[test]
+fn ways_over_other_accesses(rt: HostRuntime) -> Result<(), Fail> {
+    let case = Case {
+        name: "an access between, and a barrier on one of two ways",
+        points: &[START, ONE, TWO, BARRIER, THREE, RETURN],
+        edges: &[(0, 1), (1, 2), (2, 3), (2, 4), (3, 4), (4, 5)],
+        sites: &[WRITE, GET, READ],
+        cross: &[],
+        own: &[(1, 2), (1, 3), (2, 3)],
+        delays: &[(1, 2), (1, 3)],
+    };
+    assert!(rt; is_right(rt.alloc(), &case)?, "{}", case.name);
     Ok(())
 }

@@ -1,15 +1,30 @@
-use Rattle.std.proofs.Common.{◌≤◌, arith}
+use Rattle.std.proofs.Common.{◌≡◌, true, ◌∙◌, sym}
 use Rattle.std.proofs.lemmas.Bool.{both_ways}
-use Rattle.alias_conflicts.specs.May.{Share}
-use Rattle.alias_conflicts.proofs.SharedCells.{none_at, found_nowhere}
+use Rattle.alias_conflicts.proofs.TwoNodes.{own_by_both, own_by_first, own_by_second, own_cases}
 use Rattle.alias_conflicts.proofs.conflicting.share_own.Goals as goal
+use Rattle.alias_conflicts.proofs.conflicting.share_own.Goals.{then-forms_own, else-forms_own}
 
-pub loop-p-preserved : goal.loop-p-preserved
-loop-p-preserved c =
-    none_at (λ k. Share c.args.layout.now c.args.flow.now c.args.a.now c.args.b.now k k) c.loop-p.p
-    (λ h. both_ways _ c.if-share.false (c.share.ensures.1 h)) c.loop-p.invariant
+pub returns-then-forms_own-2 : goal.returns-then-forms_own-2
+returns-then-forms_own-2 c = (
+  λ e. elim c.if-forms_own.branch [
+    | then-forms_own w ↦ own_by_both c.args.layout.now c.args.flow.now c.args.a.now c.args.b.now (c.forms_own.ensures.0 w.if-forms_own.true)
+    | else-forms_own w ↦ own_by_first c.args.layout.now c.args.flow.now c.args.a.now c.args.b.now (w.forms_own-else-forms_own.ensures.0 (sym w.value-is ∙ e))
+  ],
+  λ s. c.if-forms_own-2.true,
+)
 
-pub returns : goal.returns
-returns c =
-    let end : c.args.layout.now.nodes ≤ c.loop-p.p = omega (arith, c.loop-p-test.false, c.nodes-p-end.ensures) in
-    (λ e. cc, λ w. absurd (found_nowhere (λ k. Share c.args.layout.now c.args.flow.now c.args.a.now c.args.b.now k k) c.args.layout.now.nodes c.loop-p.p end c.loop-p.invariant w))
+pub returns-else-forms_own-2 : goal.returns-else-forms_own-2
+returns-else-forms_own-2 c = (
+  λ e. own_by_second c.args.layout.now c.args.flow.now c.args.a.now c.args.b.now (c.forms_own-else-forms_own-2.ensures.0 e),
+  λ s. own_cases c.args.layout.now c.args.flow.now c.args.a.now c.args.b.now (c.forms_own-else-forms_own-2.result ≡ true)
+      (λ x. absurd (elim c.if-forms_own.branch [
+        | then-forms_own w ↦ both_ways _ c.if-forms_own-2.false (w.value-is ∙ w.if-forms_own.true)
+        | else-forms_own w ↦ both_ways _ w.if-forms_own.false (c.forms_own.ensures.1 x)
+      ]))
+      (λ x. absurd (elim c.if-forms_own.branch [
+        | then-forms_own w ↦ both_ways _ c.if-forms_own-2.false (w.value-is ∙ w.if-forms_own.true)
+        | else-forms_own w ↦ both_ways _ c.if-forms_own-2.false (w.value-is ∙ w.forms_own-else-forms_own.ensures.1 x)
+      ]))
+      (λ x. c.forms_own-else-forms_own-2.ensures.1 x)
+      s,
+)
