@@ -1,5 +1,8 @@
 //! Flows of small sources, by hand.
 
+mod accesses;
+mod statements;
+
 use crate::source::flow;
 use flow_form::FlowError;
 use sc_base::{Stars, Ty};
@@ -51,11 +54,15 @@ fn step(alloc: Global, operation: Operation, arguments: CoreExprs) -> CoreExpr {
     }
 }
 
-fn zero(alloc: Global) -> CoreExpr {
+fn constant(alloc: Global, constant: Constant) -> CoreExpr {
     CoreExpr {
-        first: CoreFirst::Constant(Constant::Number(0)),
+        first: CoreFirst::Constant(constant),
         links: Items::new(alloc),
     }
+}
+
+fn zero(alloc: Global) -> CoreExpr {
+    constant(alloc, Constant::Number(0))
 }
 
 /// One point: the value of local 0.
@@ -98,18 +105,28 @@ fn two(alloc: Global, first: CoreStmt, second: CoreStmt) -> Result<CoreStmt, All
     Ok(CoreStmt::Block(all))
 }
 
-/// Whether local 0 is not 0: two points, and what is chosen.
-fn choice(alloc: Global, yes: CoreStmt, no: CoreStmt) -> Result<CoreStmt, AllocError> {
+/// `if` with this test: what is chosen where it is true, and where it is false.
+fn tested(
+    alloc: Global,
+    test: CoreExpr,
+    yes: CoreStmt,
+    no: CoreStmt,
+) -> Result<CoreStmt, AllocError> {
     let mut arms = Items::new(alloc);
     arms.push(CoreArm {
         of_pointer: false,
-        test: local(alloc),
+        test,
         body: yes,
     })?;
     Ok(CoreStmt::Choose {
         arms,
         rest: Boxed::new(alloc, no)?,
     })
+}
+
+/// Whether local 0 is not 0: two points, and what is chosen.
+fn choice(alloc: Global, yes: CoreStmt, no: CoreStmt) -> Result<CoreStmt, AllocError> {
+    tested(alloc, local(alloc), yes, no)
 }
 
 fn repeated(

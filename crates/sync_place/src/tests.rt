@@ -6,32 +6,40 @@ use sqlite_items::Items;
 use std::alloc::{AllocError, Global};
 use std::test::Fail;
 
-/// A flow with these points in a function, of which some take sites, and its plan by these delays.
+/// A flow with these points in `splitc_main`, of which some take sites and read or write a local, each pair a point and a
+/// site or local; and its plan by these delays.
 #[derive(Clone, Copy)]
 struct Case<'a> {
     kinds: &'a [PointKind],
     takes: &'a [(u32, u32)],
+    reads: &'a [(u32, u32)],
+    writes: &'a [(u32, u32)],
     edges: &'a [Edge],
     sites: &'a [(SiteKind, Option<u32>)],
     delays: &'a [(u32, u32)],
+}
+
+/// What stands beside the number in the pairs.
+fn seconds(alloc: Global, pairs: &[(u32, u32)], number: usize) -> Result<Vec<u32>, AllocError> {
+    let mut found = Vec::new(alloc);
+    for (first, second) in pairs {
+        if *first as usize == number {
+            found.push(*second)?;
+        }
+    }
+    Ok(found)
 }
 
 impl<'a> Case<'a> {
     fn flow(&self, alloc: Global) -> Result<Option<Flow>, AllocError> {
         let mut points = Items::new(alloc);
         for (at, kind) in self.kinds.iter().enumerate() {
-            let mut takes = Items::new(alloc);
-            for (point, site) in self.takes {
-                if *point as usize == at {
-                    takes.push(*site)?;
-                }
-            }
             points.push(Point {
                 kind: *kind,
                 function: 0,
-                takes,
-                reads: Items::new(alloc),
-                writes: None,
+                takes: Items::from_vec(seconds(alloc, self.takes, at)?),
+                reads: Items::from_vec(seconds(alloc, self.reads, at)?),
+                writes: seconds(alloc, self.writes, at)?.first().copied(),
             })?;
         }
         let mut sites = Items::new(alloc);
@@ -118,6 +126,8 @@ fn writes_before_barriers_and_delayed_reads(rt: HostRuntime) -> Result<(), Fail>
             PointKind::Return,
         ],
         takes: &[],
+        reads: &[],
+        writes: &[],
         edges: &LINE,
         sites: &[(SiteKind::Write, None), (SiteKind::Write, None)],
         delays: &[],
@@ -141,6 +151,8 @@ fn writes_before_barriers_and_delayed_reads(rt: HostRuntime) -> Result<(), Fail>
             PointKind::Return,
         ],
         takes: &[],
+        reads: &[],
+        writes: &[],
         edges: &[edge(0, 1), edge(1, 2), edge(1, 3), edge(2, 4), edge(3, 4)],
         sites: &[(SiteKind::Write, None), (SiteKind::Read, None)],
         delays: &[(1, 2)],
@@ -160,6 +172,8 @@ fn reads_are_waited_for_where_they_are_used(rt: HostRuntime) -> Result<(), Fail>
             PointKind::Return,
         ],
         takes: &[(3, 1), (3, 2)],
+        reads: &[],
+        writes: &[],
         edges: &LINE,
         sites: &[(SiteKind::Read, None), (SiteKind::Read, None)],
         delays: &[],
@@ -168,6 +182,8 @@ fn reads_are_waited_for_where_they_are_used(rt: HostRuntime) -> Result<(), Fail>
     let filled = Case {
         kinds: &[PointKind::Start, PointKind::Access(1), PointKind::Return],
         takes: &[],
+        reads: &[],
+        writes: &[(1, 0)],
         edges: &[edge(0, 1), edge(1, 2)],
         sites: &[(SiteKind::Read, Some(0))],
         delays: &[],
@@ -181,10 +197,155 @@ fn reads_are_waited_for_where_they_are_used(rt: HostRuntime) -> Result<(), Fail>
             PointKind::Return,
         ],
         takes: &[(1, 1)],
+        reads: &[],
+        writes: &[],
         edges: &[edge(0, 1), edge(1, 2), edge(2, 1), edge(2, 3)],
         sites: &[(SiteKind::Read, None)],
         delays: &[],
     };
     assert!(rt; has_plan(rt.alloc(), &looping, false, &[&[], &[1], &[], &[]], &[])?);
+    Ok(())
+}
+
+#[test]
+fn a_local_that_is_filled_anew_is_waited_for(rt: HostRuntime) -> Result<(), Fail> {
+    // by another read
+    let two = Case {
+        kinds: &[
+            PointKind::Start,
+            PointKind::Access(1),
+            PointKind::Access(2),
+            PointKind::Return,
+        ],
+        takes: &[],
+        reads: &[],
+        writes: &[(1, 0), (2, 0)],
+        edges: &LINE[..3],
+        sites: &[(SiteKind::Read, Some(0)), (SiteKind::Read, Some(0))],
+        delays: &[],
+    };
+    assert!(rt; has_plan(rt.alloc(), &two, false, &[&[], &[], &[1], &[2]], &[])?);
+    // by the same read, in a loop
+    let again = Case {
+        kinds: &[PointKind::Start, PointKind::Access(1), PointKind::Return],
+        takes: &[],
+        reads: &[],
+        writes: &[(1, 0)],
+        edges: &[edge(0, 1), edge(1, 1), edge(1, 2)],
+        sites: &[(SiteKind::Read, Some(0))],
+        delays: &[],
+    };
+    assert!(rt; has_plan(rt.alloc(), &again, false, &[&[], &[1], &[1]], &[])?);
+    // the local is used in the next turn and behind the loop, and not between
+    let both = Case {
+        kinds: &[
+            PointKind::Start,
+            PointKind::Plain,
+            PointKind::Access(1),
+            PointKind::Plain,
+            PointKind::Plain,
+            PointKind::Return,
+        ],
+        takes: &[],
+        reads: &[(1, 0), (3, 1), (4, 0)],
+        writes: &[(2, 0)],
+        edges: &[
+            edge(0, 1),
+            edge(1, 2),
+            edge(2, 3),
+            edge(3, 1),
+            edge(3, 4),
+            edge(4, 5),
+        ],
+        sites: &[(SiteKind::Read, Some(0))],
+        delays: &[],
+    };
+    let waits: [&[u32]; 6] = [&[], &[1], &[], &[], &[1], &[]];
+    assert!(rt; has_plan(rt.alloc(), &both, false, &waits, &[])?);
+    Ok(())
+}
+
+#[test]
+fn values_that_are_dropped_and_delays_on_both_branches(rt: HostRuntime) -> Result<(), Fail> {
+    // a value that is dropped is waited for there, and a barrier before waits for it first
+    let dropped = Case {
+        kinds: &[
+            PointKind::Start,
+            PointKind::Access(1),
+            PointKind::Plain,
+            PointKind::Return,
+        ],
+        takes: &[(2, 1)],
+        reads: &[],
+        writes: &[],
+        edges: &LINE[..3],
+        sites: &[(SiteKind::Read, None)],
+        delays: &[],
+    };
+    assert!(rt; has_plan(rt.alloc(), &dropped, false, &[&[], &[], &[1], &[]], &[])?);
+    let before = Case {
+        kinds: &[
+            PointKind::Start,
+            PointKind::Access(1),
+            PointKind::Barrier,
+            PointKind::Plain,
+            PointKind::Return,
+        ],
+        takes: &[(3, 1)],
+        edges: &LINE,
+        ..dropped
+    };
+    assert!(rt; has_plan(rt.alloc(), &before, false, &[&[], &[], &[1], &[], &[]], &[])?);
+    // a branch of two puts each way, of which the second must follow the write before the branch
+    let branches = Case {
+        kinds: &[
+            PointKind::Start,
+            PointKind::Access(1),
+            PointKind::Access(2),
+            PointKind::Access(3),
+            PointKind::Access(4),
+            PointKind::Access(5),
+            PointKind::Return,
+        ],
+        takes: &[],
+        reads: &[],
+        writes: &[],
+        edges: &[
+            edge(0, 1),
+            edge(1, 2),
+            edge(1, 4),
+            edge(2, 3),
+            edge(3, 6),
+            edge(4, 5),
+            edge(5, 6),
+        ],
+        sites: &[
+            (SiteKind::Write, None),
+            (SiteKind::Put, None),
+            (SiteKind::Put, None),
+            (SiteKind::Put, None),
+            (SiteKind::Put, None),
+        ],
+        delays: &[(1, 3), (1, 5)],
+    };
+    let waits: [&[u32]; 7] = [&[], &[], &[], &[1], &[], &[1], &[]];
+    assert!(rt; has_plan(rt.alloc(), &branches, false, &waits, &[])?);
+    assert!(rt; has_plan(rt.alloc(), &branches, true, &waits, &[])?);
+    Ok(())
+}
+
+#[test]
+fn a_write_that_nothing_demands_goes_one_way(rt: HostRuntime) -> Result<(), Fail> {
+    let alone = Case {
+        kinds: &[PointKind::Start, PointKind::Access(1), PointKind::Return],
+        takes: &[],
+        reads: &[],
+        writes: &[],
+        edges: &[edge(0, 1), edge(1, 2)],
+        sites: &[(SiteKind::Write, None)],
+        delays: &[],
+    };
+    assert!(rt; has_plan(rt.alloc(), &alone, false, &[&[], &[], &[]], &[1])?);
+    assert!(rt; has_plan(rt.alloc(), &alone, true, &[&[], &[], &[]], &[])?);
     Ok(())
 }
