@@ -64,9 +64,10 @@ pub put_together : (start : Place → Value) (nodes listed_nodes edge_nodes : �
     WaysOf edge_nodes journal linked edges → arranged_items ≡ all → taken_edges ≡ edges →
     ItemsOf start nodes journal arranged_items × WaysOf nodes journal arranged_items taken_edges
 put_together start nodes listed_nodes edge_nodes journal effects given all linked arranged_items edges taken_edges n m e g a l w i t =
-    let past = reverse journal in
-    ( i ∙ a ∙ ap (λ k. all_steps k past ++ (all_releases (released past) ++ given)) n
-      ∙ ap (λ (x : List SourceEvent). all_steps nodes past ++ (all_releases (released past) ++ x)) (g ∙ e)
-    , subst (λ (k : ℕ). WaysOf k journal arranged_items taken_edges) m
-      (subst (λ (x : List SourceEvent). WaysOf edge_nodes journal x taken_edges) (l ∙ sym i)
-      (subst (λ (x : List Edge). WaysOf edge_nodes journal linked x) (sym t) w)) )
+    let past = reverse journal in (
+      i ∙ a ∙ ap (λ k. all_steps k past ++ (all_releases (released past) ++ given)) n
+          ∙ ap (λ (x : List SourceEvent). all_steps nodes past ++ (all_releases (released past) ++ x)) (g ∙ e),
+      subst (λ (k : ℕ). WaysOf k journal arranged_items taken_edges) m
+          (subst (λ (x : List SourceEvent). WaysOf edge_nodes journal x taken_edges) (l ∙ sym i)
+          (subst (λ (x : List Edge). WaysOf edge_nodes journal linked x) (sym t) w)),
+    )

@@ -7,7 +7,7 @@ use Rattle.sc_meaning.specs.Asking.{Answer, Halt, SourceDoing}
 
 -- under these answers the node made these requests and said this text; under all further answers it goes on as the rest
 pub record HasDone (start : SourceDoing) (given : List Answer) (requests : List Request) (text : List ℕ)
-      (rest : SourceDoing) : Type 0 where
+    (rest : SourceDoing) : Type 0 where
   pub run : (more : List Answer) → run_of start (given ++ more)
       ≡ run_after (record { events = requests; text = text; rest = rest }) (run_of rest more)
 
@@ -23,19 +23,19 @@ pub record CoursesGoOn : Type 0 where
       (fits : Answer → Bool)
       (go : Answer → SourceDoing) (answer : Answer) → fits answer ≡ true
       → HasDone start given requests text (Asks r fits go) → HasDone start (given ++ answer ∷ [])
-        (requests ++ r ∷ []) text (go answer)
+      (requests ++ r ∷ []) text (go answer)
   -- what is next, and that there is nothing more
   pub next_made : (start : SourceDoing) (given : List Answer) (requests : List Request) (text : List ℕ)
       (r : Request) (rest : SourceDoing)
       → HasDone start given requests text (Makes r rest) → slice_get (run_of start given).events
-        (length requests) ≡ Some r
+      (length requests) ≡ Some r
   pub next_asked : (start : SourceDoing) (given : List Answer) (requests : List Request) (text : List ℕ)
       (r : Request) (fits : Answer → Bool)
       (go : Answer → SourceDoing) → HasDone start given requests text (Asks r fits go)
       → run_of start given ≡ record { events = requests ++ r ∷ []; text = text; end = Short }
   pub over : (start : SourceDoing) (given : List Answer) (requests : List Request) (text : List ℕ) (halt : Halt)
       → HasDone start given requests text (Stops halt)
-        → run_of start given ≡ record { events = requests; text = text; end = Ends halt }
+      → run_of start given ≡ record { events = requests; text = text; end = Ends halt }
   -- an answer that does not fit is none, whatever comes behind it
   pub refused : (start : SourceDoing) (given more : List Answer) (requests : List Request) (text : List ℕ)
       (r : Request) (fits : Answer → Bool)
