@@ -38,8 +38,8 @@ use Rattle.order_edges.proofs.Keys.{Pair, pair_is}
 use Rattle.order_edges.proofs.Facts.{Facts}
 
 module _ (start : Place → Value) (past : List Entry) (nodes : ℕ) (items : List SourceEvent) (f : Facts start past nodes items) where
-  abbrev R1 : ReleasesAt
-  R1 = releases_of past items
+  abbrev release_table : ReleasesAt
+  release_table = releases_of past items
 
   abbrev Before : ℕ → ℕ → Type 0
   Before a b = before_at start past items a b ≡ true
@@ -57,7 +57,7 @@ module _ (start : Place → Value) (past : List Entry) (nodes : ℕ) (items : Li
       let g = (position_is (line_in past p Own) items k b h).1 in
       or_left _ _ (needs_own past p k (item_at items a) (item_at items b) g s)
 
-  after : (m a : ℕ) → next_release R1 m ≡ Some a → item_at items a ≡ Release (suc m)
+  after : (m a : ℕ) → next_release release_table m ≡ Some a → item_at items a ≡ Release (suc m)
   after m a h = by (nat_lt m (released past)) h
     where
       by : (b : Bool) → (if b then position (all_releases_line past) items (m + 1) else None) ≡ Some a → item_at items a ≡ Release (suc m)
@@ -68,11 +68,11 @@ module _ (start : Place → Value) (past : List Entry) (nodes : ℕ) (items : Li
 
   -- ---- releases
 
-  release_each : (a b : ℕ) → leads (release_edges R1 items (length items)) a b ≡ true → Before a b
+  release_each : (a b : ℕ) → leads (release_edges release_table items (length items)) a b ≡ true → Before a b
   release_each a b h =
-      let r = leads_upto (λ i. release_edge R1 i (item_at items i)) (length items) a b h in
-      let s = if_is (number_in (all_releases_line past) (item_at items r.0)) (λ m. link (Some r.0) (next_release R1 m)) a b r.2 in
-      let l = link_is (Some r.0) (next_release R1 s.0) a b s.2 in
+      let r = leads_upto (λ i. release_edge release_table i (item_at items i)) (length items) a b h in
+      let s = if_is (number_in (all_releases_line past) (item_at items r.0)) (λ m. link (Some r.0) (next_release release_table m)) a b r.2 in
+      let l = link_is (Some r.0) (next_release release_table s.0) a b s.2 in
       let x = release_is past s.0 (item_at items r.0) s.1 in
       needed a b (Release s.0) (Release (suc s.0)) (ap (item_at items) (sym (some_same r.0 a l.0)) ∙ x) (after s.0 b l.1) (eq-eqb _ _ refl)
 
@@ -86,7 +86,7 @@ module _ (start : Place → Value) (past : List Entry) (nodes : ℕ) (items : Li
     K = node_at past items p
 
     own_each : (i k a b : ℕ) → number_in (line_in past p Own) (item_at items i) ≡ Some k
-        → leads (own_edges R1 K i k) a b ≡ true → Before a b
+        → leads (own_edges release_table K i k) a b ≡ true → Before a b
     own_each i k a b h g =
         ⊎_elim to_next from_release
         (leads_either (link (Some i) (position (line_in past p Own) items (k + 1))) (link (position (all_releases_line past) items (min passed (released past))) (Some i)) a b g)
@@ -119,10 +119,10 @@ module _ (start : Place → Value) (past : List Entry) (nodes : ℕ) (items : Li
             (subst (λ u. step_needs past u p k ≡ true) (sym x) s))
 
     arrival_each : (i k a b : ℕ) → number_in (line_in past p Arrivals) (item_at items i) ≡ Some k
-        → leads (arrival_edges R1 K i k) a b ≡ true → Before a b
+        → leads (arrival_edges release_table K i k) a b ≡ true → Before a b
     arrival_each i k a b h g =
         let s = step_at K k in
-        let l = link_is (Some i) (next_release R1 s.arrivals) a b g in
+        let l = link_is (Some i) (next_release release_table s.arrivals) a b g in
         let x = arrival_is past p k (item_at items i) h in
         let low = (numbered (line_in past p Arrivals) (item_at items i) k h).low in
         let e : s.arrivals ≡ arrivals_among p k past = ap (λ (s : Step). s.arrivals) (the_step k low) in
@@ -132,7 +132,7 @@ module _ (start : Place → Value) (past : List Entry) (nodes : ℕ) (items : Li
     -- what waits for an effect on the track
     wait_each : (k a b : ℕ) (track : Option Track) → track_at p k past ≡ track → k ≤ requested p past
         → (c : ℕ) (wrote : Bool) (place : Place) (value : Value) → item_at items a ≡ Effect p k c wrote place value
-        → waits R1 K track (arrivals_among p k past) k ≡ Some b → Before a b
+        → waits release_table K track (arrivals_among p k past) k ≡ Some b → Before a b
     wait_each k a b None is low c wrote place value x h = absurd cc
     wait_each k a b (Some Covered) is low c wrote place value x h =
         to_own p (suc k) a b (ap (position (line_in past p Own) items) (sym (add-one k)) ∙ h)
@@ -169,10 +169,10 @@ module _ (start : Place → Value) (past : List Entry) (nodes : ℕ) (items : Li
                 (and_from _ _ (ap (λ o. option_map_or is_store o false) is) (and_from _ _ e (lt_from (arrivals_among p k past) m (omega (arith, w)))))
 
     effect_each : (i k a b : ℕ) → number_in (line_in past p Effects) (item_at items i) ≡ Some k
-        → leads (effect_edges R1 K i k) a b ≡ true → Before a b
+        → leads (effect_edges release_table K i k) a b ≡ true → Before a b
     effect_each i k a b h g =
         ⊎_elim from_issue to_wait
-        (leads_either (link (position (line_in past p Issues) items k) (Some i)) (link (Some i) (waits R1 K s.track s.arrivals k)) a b g)
+        (leads_either (link (position (line_in past p Issues) items k) (Some i)) (link (Some i) (waits release_table K s.track s.arrivals k)) a b g)
       where
         s : Step
         s = step_at K k
@@ -190,25 +190,25 @@ module _ (start : Place → Value) (past : List Entry) (nodes : ℕ) (items : Li
             needed a b (Issue p k) (Effect p k x.cell x.wrote x.place x.value) y (ap (item_at items) (sym (some_same i b l.1)) ∙ x.is)
             (and_from _ _ (eq-eqb p p refl) (eq-eqb k k refl))
 
-        to_wait : leads (link (Some i) (waits R1 K s.track s.arrivals k)) a b ≡ true → Before a b
+        to_wait : leads (link (Some i) (waits release_table K s.track s.arrivals k)) a b ≡ true → Before a b
         to_wait t =
-            let l = link_is (Some i) (waits R1 K s.track s.arrivals k) a b t in
+            let l = link_is (Some i) (waits release_table K s.track s.arrivals k) a b t in
             wait_each k a b (track_at p k past) refl low x.cell x.wrote x.place x.value (ap (item_at items) (sym (some_same i a l.0)) ∙ x.is)
-            (ap (λ (s : Step). waits R1 K s.track s.arrivals k) (sym (the_step k low)) ∙ l.1)
+            (ap (λ (s : Step). waits release_table K s.track s.arrivals k) (sym (the_step k low)) ∙ l.1)
 
-    item_each : (i a b : ℕ) → leads (item_edges R1 K i (item_at items i)) a b ≡ true → Before a b
+    item_each : (i a b : ℕ) → leads (item_edges release_table K i (item_at items i)) a b ≡ true → Before a b
     item_each i a b h =
-        ⊎_elim (λ t. let r = if_is (number_in (line_in past p Own) (item_at items i)) (own_edges R1 K i) a b t in own_each i r.0 a b r.1 r.2)
+        ⊎_elim (λ t. let r = if_is (number_in (line_in past p Own) (item_at items i)) (own_edges release_table K i) a b t in own_each i r.0 a b r.1 r.2)
         (λ u. ⊎_elim
-        (λ t. let r = if_is (number_in (line_in past p Arrivals) (item_at items i)) (arrival_edges R1 K i) a b t in arrival_each i r.0 a b r.1 r.2)
-        (λ t. let r = if_is (number_in (line_in past p Effects) (item_at items i)) (effect_edges R1 K i) a b t in effect_each i r.0 a b r.1 r.2)
-        (leads_either (edges_if (number_in (line_in past p Arrivals) (item_at items i)) (arrival_edges R1 K i)) (edges_if (number_in (line_in past p Effects) (item_at items i)) (effect_edges R1 K i)) a b u))
-        (leads_either (edges_if (number_in (line_in past p Own) (item_at items i)) (own_edges R1 K i)) _ a b h)
+        (λ t. let r = if_is (number_in (line_in past p Arrivals) (item_at items i)) (arrival_edges release_table K i) a b t in arrival_each i r.0 a b r.1 r.2)
+        (λ t. let r = if_is (number_in (line_in past p Effects) (item_at items i)) (effect_edges release_table K i) a b t in effect_each i r.0 a b r.1 r.2)
+        (leads_either (edges_if (number_in (line_in past p Arrivals) (item_at items i)) (arrival_edges release_table K i)) (edges_if (number_in (line_in past p Effects) (item_at items i)) (effect_edges release_table K i)) a b u))
+        (leads_either (edges_if (number_in (line_in past p Own) (item_at items i)) (own_edges release_table K i)) _ a b h)
 
   nodes_each : (a b : ℕ) → leads (nodes_edges past items nodes) a b ≡ true → Before a b
   nodes_each a b h =
-      let r = leads_upto (λ node. node_edges R1 (node_at past items node) items (length items)) nodes a b h in
-      let s = leads_upto (λ i. item_edges R1 (node_at past items r.0) i (item_at items i)) (length items) a b r.2 in
+      let r = leads_upto (λ node. node_edges release_table (node_at past items node) items (length items)) nodes a b h in
+      let s = leads_upto (λ i. item_edges release_table (node_at past items r.0) i (item_at items i)) (length items) a b r.2 in
       item_each r.0 s.0 a b s.2
 
   -- ---- effects by keys
@@ -264,4 +264,4 @@ module _ (start : Place → Value) (past : List Entry) (nodes : ℕ) (items : Li
       (λ v. ⊎_elim (last_each a b) (next_each a b) (leads_either (keyed_edges LastWrite items (length items)) _ a b v))
       (leads_either (keyed_edges Copied items (length items)) _ a b u))
       (leads_either (nodes_edges past items nodes) _ a b t))
-      (leads_either (release_edges R1 items (length items)) _ a b h)
+      (leads_either (release_edges release_table items (length items)) _ a b h)
