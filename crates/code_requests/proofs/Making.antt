@@ -43,7 +43,9 @@ use Rattle.forgotten_marks.specs.Played.{request_shown, without_points, source_e
 use Rattle.forgotten_marks.proofs.Promised.{all_objects, fits_names, promised}
 use Rattle.forgotten_marks.proofs.ToldRuns.{tells_are_runs}
 use Rattle.forgotten_marks.proofs.Well.{pointed_good}
-use Rattle.code_requests.specs.Laws.{machine_of, oracle_in, CodeMakesRequests}
+use Rattle.run_moves.specs.OfCode.{machine_of}
+use Rattle.run_moves.specs.Placed.{AccessesArePlaced}
+use Rattle.code_requests.specs.Laws.{oracle_in, CodeAccessesArePlaced, CodeMakesRequests}
 use Rattle.code_requests.proofs.Listed.{asks_in, asks_begin}
 use Rattle.code_requests.proofs.Stories.{own_are, Story_, story_of}
 use Rattle.code_requests.proofs.SourceAnswers.{by_requests, told_answers, IsPaired, paired_same}
@@ -66,6 +68,16 @@ ends_as (Ends (source.Finishes y)) end e = let same : y ≡ end = cc in ap (λ z
 ends_as (Ends source.Breaks) end e = absurd (cc)
 ends_as Short end e = absurd (cc)
 
+pub code_accesses_are_placed : CodeAccessesArePlaced
+code_accesses_are_placed layout program plan code budget many journal emitted is_run p n a h =
+    let machine : Machine = machine_of layout code budget many in
+    let past : List Entry = reverse journal in
+    let i = issued_at p n a past h in
+    let w = wired_at (start layout) layout.nodes i.0 _ past is_run.legal.wired i.1 in
+    let run = soundly code layout emitted.sound p budget w.0.going.running.node_within many (answers machine p past) in
+    asks_placed layout (run_so_far machine p past).events a run.placed
+    (front_in (Issue a) (asks_in p past) (run_so_far machine p past).events (asks_begin machine p past is_run.legal.wired is_run.legal.asked) (access_asked p past n a h))
+
 module _ (layout : Arrangement) (program : Program) (plan : Plan) (code : Code) (budget many : ℕ) (journal : List Entry) (source_ : IsLaidSource layout program)
     (emitted : IsEmitted layout program plan code) (is_run : IsRun (machine_of layout code budget many) journal) where
   abbrev machine : Machine
@@ -74,13 +86,8 @@ module _ (layout : Arrangement) (program : Program) (plan : Plan) (code : Code) 
   abbrev past : List Entry
   past = reverse journal
 
-  placed : (p n : ℕ) (a : Access) → access_at p n past ≡ Some a → IsPlaced layout a
-  placed p n a h =
-      let i = issued_at p n a past h in
-      let w = wired_at (start layout) layout.nodes i.0 _ past is_run.legal.wired i.1 in
-      let run = soundly code layout emitted.sound p budget w.0.going.running.node_within many (answers machine p past) in
-      asks_placed layout (run_so_far machine p past).events a run.placed
-      (front_in (Issue a) (asks_in p past) (run_so_far machine p past).events (asks_begin machine p past is_run.legal.wired is_run.legal.asked) (access_asked p past n a h))
+  placed : AccessesArePlaced layout past
+  placed = code_accesses_are_placed layout program plan code budget many journal emitted is_run
 
   module _ (node : ℕ) (below : node < layout.nodes) (end : End) (over : finished node past ≡ Some end) where
     abbrev oracle : Oracle

@@ -29,7 +29,8 @@ use Rattle.source_order.specs.Steps.{and_request, own_requests}
 use Rattle.forgotten_marks.specs.Played.{without_points, request_asked, code_end, code_shows}
 use Rattle.forgotten_marks.proofs.Marks.{from_forgotten}
 use Rattle.forgotten_marks.proofs.PlayedRuns.{from_same}
-use Rattle.code_requests.specs.Laws.{machine_of, oracle_in, JournalsArePlayed}
+use Rattle.run_moves.specs.OfCode.{machine_of}
+use Rattle.code_requests.specs.Laws.{oracle_in, JournalsArePlayed}
 use Rattle.code_requests.proofs.Listed.{and_ask, asks_in, Front, same_node, asked_is, asks_begin}
 use Rattle.code_requests.proofs.Answers.{oracle_of, answers_are, breaks_here, append_one}
 use Rattle.code_requests.proofs.Played.{coded_from, IsOver, run_by, played_is, BreaksAt, broken_exact, breaks_last}

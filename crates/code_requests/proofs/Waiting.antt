@@ -10,7 +10,8 @@ use Rattle.sc_meaning.specs.Source.{processes_of}
 use Rattle.source_order.specs.Answering.{is_answered, WaitsForAnswers}
 use Rattle.source_order.proofs.Ordering.{order_holds}
 use Rattle.forgotten_marks.proofs.Well.{Well, Answers, IsMade, gets_after, pointed_good}
-use Rattle.code_requests.specs.Laws.{machine_of, SourcesWaitForAnswers, CodeRunsAreOrdered}
+use Rattle.run_moves.specs.OfCode.{machine_of}
+use Rattle.code_requests.specs.Laws.{SourcesWaitForAnswers, CodeRunsAreOrdered}
 use Rattle.code_requests.proofs.Making.{code_makes_requests}
 
 asked : (n : ℕ) (r : Request) (fits : Answer → Bool) → Answers n r fits → is_answered r ≡ true

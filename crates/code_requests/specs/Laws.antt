@@ -1,4 +1,4 @@
--- The machine that runs a source's code, and what its runs request: on each node the requests of the source's process
+-- What the runs of a source's code request: on each node the requests of the source's process
 -- under the answers that the journal shows, a simulation as in Milner, "An algebraic definition of simulation between
 -- programs" (1971).
 use Rattle.std.specs.Prelude.{◌≡◌, ℕ, Bool, false, List, reverse, Some, nat_lt}
@@ -11,7 +11,6 @@ use Rattle.sc_layout.specs.Layout.{Arrangement}
 use Rattle.sc_layout.specs.Start.{start}
 use Rattle.sc_isa.specs.declared.code.Code.{Code}
 use Rattle.sc_isa.specs.declared.journal.Entry.{Entry}
-use Rattle.sc_isa.specs.Run.{node_asks}
 use Rattle.sc_core.specs.Core.{Program}
 use Rattle.sc_meaning.specs.Source.{processes_of}
 use Rattle.site_graph.specs.declared.plan.Plan.{Plan}
@@ -22,7 +21,9 @@ use Rattle.node_emit.specs.Oracles.{Oracle, at_first, plays}
 use Rattle.node_emit.specs.Law.{IsEmitted}
 use Rattle.fabric.specs.Effects.{effects, or_zero}
 use Rattle.fabric.specs.Barriers.{passes, finished}
-use Rattle.fabric.specs.Asked.{Machine, run_so_far}
+use Rattle.fabric.specs.Asked.{run_so_far}
+use Rattle.run_moves.specs.OfCode.{machine_of}
+use Rattle.run_moves.specs.Placed.{AccessesArePlaced}
 use Rattle.forgotten_marks.specs.Played.{without_points}
 use Rattle.source_order.specs.Steps.{own_requests}
 use Rattle.source_order.specs.Whole.{IsRun}
@@ -30,11 +31,6 @@ use Rattle.source_order.specs.Made.{IsMade}
 use Rattle.source_order.specs.Answering.{AllWaitForAnswers}
 use Rattle.source_order.specs.Needs.{NoCycle}
 use Rattle.source_order.specs.Law.{IsOrdered}
-
--- each node runs the code under the budget, by so many instructions, over cells that begin as 0 or null
-abbrev pub machine_of : Arrangement → Code → (budget many : ℕ) → Machine
-machine_of layout code budget many =
-    record { nodes = layout.nodes; start = start layout; starts = λ node. node_asks code layout node budget many }
 
 -- what a past shows of a node: the value of each of its accesses that reads, and which barriers it passes
 abbrev pub oracle_in : (start : Place → Value) → (node : ℕ) → List Entry → Oracle
@@ -58,6 +54,13 @@ JournalsArePlayed =
       text = (run_so_far (machine_of layout code budget many) node (reverse journal)).text;
       end = Ends end;
     }
+
+-- In each whole run of the code of a source each access lies in the layout.
+abbrev pub CodeAccessesArePlaced : Type 0
+CodeAccessesArePlaced =
+    (layout : Arrangement) (program : Program) (plan : Plan) (code : Code) (budget many : ℕ) (journal : List Entry)
+    → IsEmitted layout program plan code → IsRun (machine_of layout code budget many) journal
+    → AccessesArePlaced layout (reverse journal)
 
 -- In each whole run of the code of a source the nodes make the requests of the source: what the order theorem wants of
 -- the journal. Whatever number of instructions it takes, the run is whole only where each node finishes within it.

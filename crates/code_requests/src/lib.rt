@@ -1,12 +1,18 @@
 //! What the runs of code request. Each law is the contract of a public function with an empty body; nothing of it runs.
 #![tactic(auto)]
 
-ghost use Rattle.code_requests.specs.Laws.{CodeMakesRequests, CodeRunsAreOrdered, JournalsArePlayed, SourcesWaitForAnswers};
+ghost use Rattle.code_requests.specs.Laws.{CodeAccessesArePlaced, CodeMakesRequests, CodeRunsAreOrdered, JournalsArePlayed, SourcesWaitForAnswers};
 
 /// In a whole run of code what a node requests, says and ends with is what the code plays under the oracle that the run shows: the
 /// values of the node's accesses, and the barriers that it passes.
 pub fn journals_are_played()
     ensures { JournalsArePlayed }
+{}
+
+/// In each whole run of the code of a source each access lies in the layout: its cells are cells of it, a value that is written fits
+/// its cell, and a copy is between cells of one type.
+pub fn code_accesses_are_placed()
+    ensures { CodeAccessesArePlaced }
 {}
 
 /// In each whole run of the code of a source each node makes the requests of the source's process under the answers that the run

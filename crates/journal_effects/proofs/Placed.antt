@@ -14,7 +14,8 @@ use Rattle.fabric.proofs.IssueSteps.{ends_small}
 use Rattle.source_order.proofs.Stands.{Stands}
 use Rattle.source_order.proofs.Numbers.{access_is}
 use Rattle.journal_effects.specs.Numbered.{HasNumberedCells, IsNumbered}
-use Rattle.journal_effects.specs.Laws.{AccessesArePlaced, PlacedAreNumbered}
+use Rattle.run_moves.specs.Placed.{AccessesArePlaced}
+use Rattle.journal_effects.specs.Laws.{PlacedAreNumbered}
 
 pub placed_access : (layout : Arrangement) → IsLayout layout → (access : Access) → IsPlaced layout access →
     HasNumberedCells access

@@ -9,8 +9,9 @@ use Rattle.msg_pool.specs.declared.slot.Grouping.{Grouping}
 use Rattle.msg_pool.specs.declared.slot.Grouping.TheVariants.{Every, Issuer, Target}
 use Rattle.msg_pool.specs.declared.slot.Slot.{Slot}
 use Rattle.msg_pool.specs.declared.chain.Chain.{Chain}
-use Rattle.msg_pool.specs.Pool.{ids, of_issuer, to_target}
-use Rattle.msg_pool.specs.Chains.{Links, IsLinked, IsChain, chain_at, forward, members}
+use Rattle.msg_pool.specs.declared.message.MsgId.{MsgId}
+use Rattle.msg_pool.specs.Pool.{ids, of_issuer, to_target, NamesOnce}
+use Rattle.msg_pool.specs.Chains.{Links, IsLinked, IsChain, IsFresh, AreDistinct, chain_at, forward, members}
 use Rattle.msg_pool.specs.Slots.{link_of, group_of, link_at, group_at, pending_at}
 use Rattle.msg_pool.specs.Sound.{Parts, keys_of, pool_of, IsPool}
 use Rattle.msg_pool.proofs.Keys.{every_chain, chain_walk, some_linked}
@@ -38,6 +39,37 @@ id_of slots [] k = refl
 id_of slots (key ∷ keys) zero = refl
 id_of slots (key ∷ keys) (suc k) = id_of slots keys k
 
+fresh_nowhere : (keys : List ℕ) (k key : ℕ) → IsFresh key keys → slice_get keys k ≡ Some key → ⊥
+fresh_nowhere [] k key fresh is = absurd (cc)
+fresh_nowhere (first ∷ keys) zero key fresh is = fresh.0 (let same : key ≡ first = cc in same)
+fresh_nowhere (first ∷ keys) (suc k) key fresh is = fresh_nowhere keys k key fresh.1 is
+
+-- distinct keys stand at one place each
+distinct_places : (keys : List ℕ) (i k key : ℕ) → AreDistinct keys → slice_get keys i ≡ Some key → slice_get keys k ≡ Some key → i ≡ k
+distinct_places [] i k key distinct here there = absurd (cc)
+distinct_places (first ∷ keys) zero zero key distinct here there = refl
+distinct_places (first ∷ keys) zero (suc k) key distinct here there =
+    let same : first ≡ key = cc in
+    absurd (fresh_nowhere keys k first distinct.0 (there ∙ ap (λ found. Some found) (sym same)))
+distinct_places (first ∷ keys) (suc i) zero key distinct here there =
+    let same : first ≡ key = cc in
+    absurd (fresh_nowhere keys i first distinct.0 (here ∙ ap (λ found. Some found) (sym same)))
+distinct_places (first ∷ keys) (suc i) (suc k) key distinct here there = ap suc (distinct_places keys i k key distinct.1 here there)
+
+-- the key at a place, of the id there
+key_there : (slots : Slab Slot) (found : Option ℕ) (id : MsgId) → option_map (λ key. (pending_at slots key).id) found ≡ Some id → found ≡ Some id.key
+key_there slots None id is = absurd (cc)
+key_there slots (Some key) id is =
+    let same : (pending_at slots key).id ≡ id = cc in
+    ap (λ named. Some named.key) same
+
+-- distinct keys name their messages once
+pub names_once : (slots : Slab Slot) (keys : List ℕ) → AreDistinct keys → NamesOnce (ids (map (pending_at slots) keys))
+names_once slots keys distinct i k id here there =
+    distinct_places keys i k id.key distinct
+    (key_there slots (slice_get keys i) id (sym (id_of slots keys i) ∙ here))
+    (key_there slots (slice_get keys k) id (sym (id_of slots keys k) ∙ there))
+
 linked_present : (links : Links) (before : Option ℕ) (keys : List ℕ) (behind : Option ℕ) (k key : ℕ) → IsLinked links before keys behind → Some key ≡ slice_get keys k → is_some (links key) ≡ true
 linked_present links before [] behind k key linked is = absurd (cc)
 linked_present links before (first ∷ keys) behind zero key linked is =
@@ -60,6 +92,9 @@ module _ (parts : Parts) (sound : IsPool parts) where
 
   pub target_walked : (group : ℕ) → IsChain (link_at Target parts.slots) (chain_at parts.targets group) (forward (link_at Target parts.slots) (chain_at parts.targets group).head (chain_at parts.targets group).count)
   target_walked group = walked (link_at Target parts.slots) (chain_at parts.targets group) _ (sound.targets group)
+
+  pub every_once : NamesOnce (ids (pool_of parts).pending)
+  every_once = names_once parts.slots (keys_of parts) sound.distinct
 
   pub every_nth : (k : ℕ) → slice_get (ids (pool_of parts).pending) k ≡ option_map (λ key. (pending_at parts.slots key).id) (slice_get (keys_of parts) k)
   every_nth k = id_of parts.slots (keys_of parts) k

@@ -1,5 +1,5 @@
 -- A pool of messages that are under way: the pending ones, each with its id, in the order of their puts.
-use Rattle.std.specs.Prelude.{◌≡◌, ℕ, ◌+◌, ◌-◌, List, [], ◌∷◌, ◌++◌, map, ◌==◌}
+use Rattle.std.specs.Prelude.{◌≡◌, ℕ, ◌+◌, ◌-◌, List, [], ◌∷◌, ◌++◌, map, slice_get, Some, ◌==◌}
 use Rattle.std.specs.List.{filter, Contains}
 use Rattle.msg_pool.specs.declared.message.Message.{Message}
 use Rattle.msg_pool.specs.declared.message.MsgId.{MsgId}
@@ -42,6 +42,10 @@ to_target node pending = filter (λ entry. target_of entry.message == node) pend
 -- what names them
 abbrev pub ids : List Pending → List MsgId
 ids pending = map (λ entry. entry.id) pending
+
+-- no id stands at two places
+abbrev pub NamesOnce : List MsgId → Type 0
+NamesOnce names = (i k : ℕ) (id : MsgId) → slice_get names i ≡ Some id → slice_get names k ≡ Some id → i ≡ k
 
 -- the id names a pending message
 abbrev pub IsPending : Pool → MsgId → Type 0

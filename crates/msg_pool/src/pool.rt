@@ -2,7 +2,7 @@
 
 ghost use Rattle.std.specs.Prelude.{◌≡◌, ◌≤◌, ◌<◌, ◌+◌, ◌^◌, ◌↔◌};
 ghost use Rattle.std.specs.Prelude.{IfOk, OnOk, IfSome, IfNone, IsSome, length, slice_get, replicate};
-ghost use Rattle.msg_pool.specs.Pool.{empty_pool, target_of, of_issuer, to_target, ids, IsPending, with_message, Takes};
+ghost use Rattle.msg_pool.specs.Pool.{empty_pool, target_of, of_issuer, to_target, ids, NamesOnce, IsPending, with_message, Takes};
 ghost use Rattle.slab.specs.Slab.{ContainsKey, get};
 ghost use Rattle.msg_pool.specs.declared.slot.Slot.{Slot};
 ghost use Rattle.msg_pool.specs.Chains.{empty_chain, chain_at};
@@ -130,9 +130,10 @@ impl MsgPool {
         Some(slot.message)
     }
 
-    /// The id of the pending message that is number `k` of all, counted from 0.
+    /// The id of the pending message that is number `k` of all, counted from 0. No id names two of them.
     pub fn nth(&self, k: u64) -> Option<MsgId>
-        ensures { result ≡ slice_get (ids self.now.pending) k }
+        ensures id { result ≡ slice_get (ids self.now.pending) k }
+        ensures once { NamesOnce (ids self.now.pending) }
     {
         let key = nth(&self.slots, Grouping::Every, self.every, k)?;
         Some(id_at(&self.slots, key))

@@ -37,7 +37,8 @@ use Rattle.source_order.proofs.Numbers.{issued_at}
 use Rattle.source_order.proofs.Stands.{wired_at}
 use Rattle.node_emit.specs.Oracles.{Oracle, at_first}
 use Rattle.forgotten_marks.proofs.Promised.{all_objects, fits_names}
-use Rattle.code_requests.specs.Laws.{machine_of, oracle_in}
+use Rattle.run_moves.specs.OfCode.{machine_of}
+use Rattle.code_requests.specs.Laws.{oracle_in}
 use Rattle.code_requests.proofs.Listed.{and_ask, asks_in, asks_begin}
 use Rattle.code_requests.proofs.Answers.{answers_are}
 use Rattle.code_requests.proofs.EffectsFit.{reads_fit}

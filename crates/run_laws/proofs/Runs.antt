@@ -9,7 +9,7 @@ use Rattle.source_order.proofs.ByRules.{order_is_by_rules}
 use Rattle.source_order.proofs.PlainOrder.{plain_runs_have_no_cycle}
 use Rattle.node_emit.specs.Pointed.{code_points}
 use Rattle.forgotten_marks.proofs.Marks.{marks_are_forgotten}
-use Rattle.code_requests.specs.Laws.{machine_of}
+use Rattle.run_moves.specs.OfCode.{machine_of}
 use Rattle.code_requests.proofs.Making.{code_makes_requests}
 use Rattle.code_requests.proofs.Waiting.{sources_wait_for_answers, code_runs_are_ordered}
 use Rattle.run_laws.specs.Laws.{PlainCodeRunsPlainly, PlainCodeRunsHaveNoCycle, PlainRunsAreOrdered, SimulatedRunsAreOrdered, PicksDetermineTheCodeRun}

@@ -15,7 +15,7 @@ use Rattle.fabric.specs.WiredTest.{is_pass}
 use Rattle.fabric.specs.Asked.{Machine, answers, asked}
 use Rattle.run_moves.specs.Moves.{where_wired, ends_waiting, step_over, step_or_over, step_of, steps_below, delivery, moves}
 use Rattle.run_moves.specs.Simulated.{IsPicked, IsSimulation}
-use Rattle.code_requests.specs.Laws.{machine_of}
+use Rattle.run_moves.specs.OfCode.{machine_of}
 use Rattle.run_laws.specs.Laws.{SimulationsSettle}
 use Rattle.run_laws.proofs.Known.{enough_for, same_run}
 

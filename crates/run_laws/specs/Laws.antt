@@ -27,7 +27,7 @@ use Rattle.source_order.specs.Items.{source_order}
 use Rattle.source_order.specs.ByRules.{sorted}
 use Rattle.source_order.specs.Needs.{NoCycle}
 use Rattle.source_order.specs.Law.{IsPlain, IsOrdered}
-use Rattle.code_requests.specs.Laws.{machine_of}
+use Rattle.run_moves.specs.OfCode.{machine_of}
 
 -- it holds of every number of instructions from some number on
 abbrev pub FromSomeNumberOn : (ℕ → Type 0) → Type 0

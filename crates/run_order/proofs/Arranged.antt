@@ -1,5 +1,5 @@
 -- The items of a journal that can be ordered, arranged by its edges, are its source order.
-use Rattle.std.proofs.Common.{◌≡◌, ℕ, List, ◌++◌, Some, None, length, reverse, sym, ap, ◌∙◌, subst}
+use Rattle.std.proofs.Common.{◌≡◌, ℕ, List, ◌++◌, Option, Some, None, length, reverse, sym, ap, ◌∙◌, subst}
 use Rattle.sc_base.specs.declared.value.Place.{Place}
 use Rattle.sc_base.specs.declared.value.Value.{Value}
 use Rattle.sc_isa.specs.declared.journal.Entry.{Entry}
@@ -12,7 +12,7 @@ use Rattle.fabric.specs.Barriers.{released}
 use Rattle.source_order.specs.Items.{items, all_steps, all_releases, all_effects, source_order}
 use Rattle.journal_order.specs.Ordering.{CanBeOrdered, IsSourceOrder, before_at, arranged}
 use Rattle.journal_order.proofs.ByEdges.{order_is_by_edges}
-use Rattle.run_order.specs.Orderable.{IsOrderable}
+use Rattle.run_order.specs.Orderable.{IsOrderable, IsOrderIfAny}
 
 -- the edges are ways of whatever run the items are of
 abbrev pub WaysOf : (nodes : ℕ) → List Entry → List SourceEvent → List Edge → Type 0
@@ -42,18 +42,23 @@ arranged_is start nodes journal all edges is ways processes machine start_is nod
     by_ways processes machine journal all edges (here ∙ ap (λ n. items processes.start n (reverse journal)) (sym nodes_are)) can
     (ways processes machine nodes_are can here)
 
-pub never_none : (start : Place → Value) (nodes : ℕ) (journal : List Entry) (all : List SourceEvent) (edges : List Edge) →
-    ItemsOf start nodes journal all → WaysOf nodes journal all edges → IsOrderable start nodes journal →
-    arranged all edges ≡ None → ⊥
-never_none start nodes journal all edges is ways orderable none =
-    let some = arranged_is start nodes journal all edges is ways orderable.processes orderable.machine orderable.start_is orderable.nodes_are orderable.can in
+pub order_if_any : (start : Place → Value) (nodes : ℕ) (journal : List Entry) (all : List SourceEvent) (edges : List Edge)
+    (found : Option (List SourceEvent)) → ItemsOf start nodes journal all → WaysOf nodes journal all edges →
+    found ≡ arranged all edges → IsOrderIfAny start nodes journal found
+order_if_any start nodes journal all edges found is ways arranged_so processes machine start_is nodes_are can =
+    arranged_so ∙ arranged_is start nodes journal all edges is ways processes machine start_is nodes_are can
+
+pub never_none : (start : Place → Value) (nodes : ℕ) (journal : List Entry) (found : Option (List SourceEvent)) →
+    IsOrderIfAny start nodes journal found → IsOrderable start nodes journal → found ≡ None → ⊥
+never_none start nodes journal found is orderable none =
+    let some = is orderable.processes orderable.machine orderable.start_is orderable.nodes_are orderable.can in
     absurd (cc)
 
-pub is_source_order : (start : Place → Value) (nodes : ℕ) (journal : List Entry) (all : List SourceEvent) (edges : List Edge)
-    (events : List SourceEvent) → ItemsOf start nodes journal all → WaysOf nodes journal all edges →
-    arranged all edges ≡ Some events → IsSourceOrder start nodes journal events
-is_source_order start nodes journal all edges events is ways found processes machine start_is nodes_are can =
-    let some = arranged_is start nodes journal all edges is ways processes machine start_is nodes_are can in
+pub is_source_order : (start : Place → Value) (nodes : ℕ) (journal : List Entry) (found : Option (List SourceEvent))
+    (events : List SourceEvent) → IsOrderIfAny start nodes journal found → found ≡ Some events →
+    IsSourceOrder start nodes journal events
+is_source_order start nodes journal found events is so processes machine start_is nodes_are can =
+    let some = is processes machine start_is nodes_are can in
     cc
 
 -- what the parts of the code give together

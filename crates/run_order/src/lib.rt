@@ -2,6 +2,10 @@
 #![tactic(auto)]
 
 pub mod laws;
+pub mod of_nodes;
 pub mod ordering;
+#[cfg(test)]
+mod tests;
 
-pub use ordering::order;
+pub use of_nodes::are_on;
+pub use ordering::{order, order_by_edges};
