@@ -1,0 +1,14 @@
+pub mod Enough
+pub mod Runs
+pub mod Broken
+pub mod Shown
+pub mod Stepping
+pub mod Barriers
+pub mod Fitting
+pub mod Others
+pub mod Placing
+pub mod Stepped
+pub mod Moving
+pub mod Ending
+pub mod Delivering
+pub mod Ready

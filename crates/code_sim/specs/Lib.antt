@@ -1,0 +1,4 @@
+pub mod Enough
+pub mod Ran
+pub mod Asking
+pub mod UnderWay
