@@ -1,0 +1,25 @@
+use Rattle.std.proofs.Common.{refl, ap, ◌∙◌, Some, map}
+use Rattle.std.proofs.lemmas.Result.{on_ok_weaker}
+use Rattle.sc_core.specs.ViewParts.{plain_core_arm}
+use Rattle.sc_core.specs.ViewStatements.{plain_does, chosen}
+use Rattle.core_machine.specs.Todo.{does_}
+use Rattle.core_run.specs.declared.task.Task.TheVariants as task
+use Rattle.core_run.proofs.Deciding.{if_true, if_false, if_none}
+use Rattle.core_run.proofs.runner.Runner.decide_arm.Goals as goal
+
+pub returns-in-Some-true : goal.returns-in-Some-true
+returns-in-Some-true c =
+    on_ok_weaker c.push.result (if_true c.args.self.now c.decided.new.self c.args.of_pointer c.decided.result
+    c.decided.ensures.test c.decided.ensures.kept (does_ (plain_does c.args.body.now)) (does_ (chosen (map plain_core_arm c.args.arms.now) (plain_does c.args.rest.now))) (task.Do c.args.body) c.push.new.self
+    (c.in-Some-true.is ∙ ap Some c.in-Some-true.field-0-test) refl) c.push.ensures
+
+pub returns-in-Some-false : goal.returns-in-Some-false
+returns-in-Some-false c =
+    on_ok_weaker c.push-in-Some-false.result (if_false c.args.self.now c.decided.new.self c.args.of_pointer c.decided.result
+    c.decided.ensures.test c.decided.ensures.kept (does_ (plain_does c.args.body.now)) (does_ (chosen (map plain_core_arm c.args.arms.now) (plain_does c.args.rest.now))) (task.Choose c.args.arms c.args.rest) c.push-in-Some-false.new.self
+    (c.in-Some-false.is ∙ ap Some c.in-Some-false.field-0-test) refl) c.push-in-Some-false.ensures
+
+pub returns-in-None : goal.returns-in-None
+returns-in-None c =
+    on_ok_weaker c.halt.result (if_none c.args.self.now c.decided.new.self c.args.of_pointer c.decided.result
+    c.decided.ensures.test c.decided.ensures.kept (does_ (plain_does c.args.body.now)) (does_ (chosen (map plain_core_arm c.args.arms.now) (plain_does c.args.rest.now))) c.halt.new.self c.in-None.is) c.halt.ensures.stands
