@@ -24,6 +24,7 @@ fn main(rt: HostRuntime) -> ExitCode {
     let mut source = ReadSource::new(rt.reader());
     let mut out = WriteSink::new(rt.stdout());
     let mut err = WriteSink::new(rt.stderr());
+    let mut made = None;
     let status = match words(&rt) {
         Ok(words) => top(
             &rt,
@@ -33,6 +34,7 @@ fn main(rt: HostRuntime) -> ExitCode {
             &mut out,
             &mut err,
             &NoGate,
+            &mut made,
         ),
         Err(_) => match write_all(&mut err, b"splitc: no memory\n") {
             Ok(()) => Status::Memory,

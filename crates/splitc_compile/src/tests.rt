@@ -2,3 +2,4 @@
 
 mod emitted;
 mod lowered;
+mod placed;

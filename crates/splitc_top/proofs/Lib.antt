@@ -1,5 +1,8 @@
 pub mod Answered
+pub mod CompiledText
 pub mod Excused
+pub mod HasPair
+pub mod Named
 pub mod Numbers
 pub mod OneAnswer
 pub mod Options

@@ -1,12 +1,12 @@
 -- The words ask for at least one node.
-use Rattle.std.proofs.Common.{◌≡◌, ℕ, ◌^◌, ◌<◌, ◌≤◌, ◌-◌, List, [], ◌∷◌, length, Option, Some, None, Bool, true, false, ◌&&◌, nat_le, is_some, bytes_eq, codes, refl, subst, arith}
+use Rattle.std.proofs.Common.{◌≡◌, ℕ, ◌^◌, ◌<◌, ◌≤◌, ◌-◌, List, [], ◌∷◌, length, Option, Some, None, Bool, true, false, ◌&&◌, ◌||◌, nat_le, is_some, bytes_eq, codes, refl, sym, subst, arith}
 use Rattle.std.specs.Prelude.{if◌then◌else◌}
 use Rattle.std.proofs.lemmas.Grind.{common_steps}
 use Rattle.sc_base.specs.declared.limits.TheConstants.{LIMITS}
 use Rattle.splitc_top.specs.declared.words.Command.{Command}
-use Rattle.splitc_top.specs.declared.words.Command.TheVariants.{Run}
+use Rattle.splitc_top.specs.declared.words.Command.TheVariants.{Compile, Delays}
 use Rattle.splitc_top.specs.declared.words.Options.{Options}
-use Rattle.splitc_top.specs.Words.{number_after, within, number_word, with_nodes, with_seed, with_budget, with_memory, with_option, options_of, no_options, or_default, command_from, command_of, nodes_of}
+use Rattle.splitc_top.specs.Words.{number_after, within, number_word, with_nodes, with_seed, with_budget, with_memory, with_option, options_of, no_options, or_default, run_with, on_nodes, command_of, nodes_of}
 
 -- the nodes that were asked for are some
 abbrev AsksSome : Option Options → Type 0
@@ -95,12 +95,30 @@ asks_some (name ∷ word ∷ words) (Some o) h =
 -- the words ask for some nodes
 pub some_nodes : (words : List (List ℕ)) (c : Command) → command_of words ≡ Some c → 0 < nodes_of c
 some_nodes [] c e = cc
-some_nodes (word ∷ words) c e = by_test (bytes_eq word (codes "run")) e
+some_nodes (word ∷ words) c e =
+    named (options_of words (Some no_options)) (asks_some words (Some no_options) (omega arith))
+    (bytes_eq word (codes "run")) (bytes_eq word (codes "compile")) (bytes_eq word (codes "delays")) e
   where
-    by_options : (o : Option Options) → AsksSome o → command_from o ≡ Some c → 0 < nodes_of c
-    by_options None h x = cc
-    by_options (Some o) h x = let s : Run (or_default 4 o.nodes) (or_default 1 o.seed) (or_default 100000 o.budget) o.memory ≡ c = cc in subst (λ k. 0 < nodes_of k) s h
+    is_some_of : (d : Command) → Some d ≡ Some c → 0 < nodes_of d → 0 < nodes_of c
+    is_some_of d x h = let s : d ≡ c = cc in subst (λ k. 0 < nodes_of k) s h
 
-    by_test : (b : Bool) → (if b then command_from (options_of words (Some no_options)) else None) ≡ Some c → 0 < nodes_of c
-    by_test true x = by_options (options_of words (Some no_options)) (asks_some words (Some no_options) (omega arith)) x
-    by_test false x = cc
+    by_run : (o : Option Options) → AsksSome o → run_with o ≡ Some c → 0 < nodes_of c
+    by_run None h x = cc
+    by_run (Some o) h x = is_some_of _ x h
+
+    by_nodes : (command : ℕ → Command) → ((n : ℕ) → nodes_of (command n) ≡ n) → (o : Option Options) → AsksSome o
+        → on_nodes command o ≡ Some c → 0 < nodes_of c
+    by_nodes command is None h x = cc
+    by_nodes command is (Some o) h x = go (is_some o.seed || is_some o.budget || o.memory) x
+      where
+        go : (b : Bool) → (if b then None else Some (command (or_default 4 o.nodes))) ≡ Some c → 0 < nodes_of c
+        go true y = cc
+        go false y = is_some_of _ y (subst (λ k. 0 < k) (sym (is (or_default 4 o.nodes))) h)
+
+    named : (o : Option Options) → AsksSome o → (run compile delays : Bool)
+        → (if run then run_with o else if compile then on_nodes Compile o else if delays then on_nodes Delays o else None) ≡ Some c
+        → 0 < nodes_of c
+    named o h true compile delays x = by_run o h x
+    named o h false true delays x = by_nodes Compile (λ n. refl) o h x
+    named o h false false true x = by_nodes Delays (λ n. refl) o h x
+    named o h false false false x = cc

@@ -1,5 +1,5 @@
 -- What the program tells of a run is what its journal says, and that is one history of the source.
-use Rattle.std.proofs.Common.{◌≡◌, ℕ, ◌<◌, ◌%◌, List, [], ◌∷◌, Option, Some, None, true, refl, sym, ap, ◌∙◌, subst}
+use Rattle.std.proofs.Common.{◌≡◌, ℕ, ◌<◌, ◌%◌, List, [], ◌∷◌, Option, Some, None, Bool, true, refl, sym, ap, ◌∙◌, subst}
 use Rattle.std.proofs.Common.{length, pos, reverse}
 use Rattle.std.specs.Prelude.{slice_get}
 use Rattle.std.specs.Option.{option_map_or}
@@ -12,6 +12,7 @@ use Rattle.sc_layout.specs.Start.{start}
 use Rattle.effect_order.specs.Effect.{held}
 use Rattle.tree_meaning.specs.History.{Outcome}
 use Rattle.tree_run.specs.Built.{is_built}
+use Rattle.tree_run.specs.Program.{program_of}
 use Rattle.run_sim.specs.declared.journal.Entry.{Entry}
 use Rattle.run_sim.specs.declared.result.NodeResult.{NodeResult}
 use Rattle.run_sim.specs.declared.result.Run.{Run}
@@ -28,10 +29,8 @@ use Rattle.run_report.specs.Status.{status_of}
 use Rattle.run_report.proofs.ShownSame.{HoldSame, report_same, status_same}
 use Rattle.splitc_top.specs.Jobs.{job_for}
 use Rattle.splitc_top.specs.Reasons.{IsTaken}
-use Rattle.splitc_top.specs.Top.{IsReportOf, machine_of, program_by, seed_of, budget_of, shows_memory}
-use Rattle.splitc_top.specs.Words.{nodes_of}
+use Rattle.splitc_top.specs.Runs.{IsReportOf, machine_of}
 use Rattle.run_report.specs.declared.status.Status.{Status}
-use Rattle.splitc_top.specs.declared.words.Command.{Command}
 use Rattle.splitc_top.proofs.Places.{placed}
 
 -- picks that are the same, one by one, pick the same
@@ -61,24 +60,24 @@ module _ (job : Job) (lawful : IsLayout job.layout) (picks : ℕ → ℕ) (run :
       ap (value_or (Int (pos 0))) (ran.ended.holds place p)
       ∙ ap (λ (l : Arrangement). held (start l) place (effects (start_in job) (reverse run.journal))) ran.ended.laid
 
-pub told : (command : Command) (given : List ℕ) (names : List Text) (typed : PlainTypedTree) (layout : Arrangement)
-    (picks : ℕ → ℕ) (run : Run) (text : List ℕ) (status : Status)
-    → IsTaken (nodes_of command) given names typed layout → is_built typed ≡ true → IsLayout layout
-    → ((k : ℕ) → picks k ≡ seed_word (seed_of command) k)
-    → IsSimulated (job_for typed layout (budget_of command)) picks run
-    → text ≡ report names layout (ends_in run.nodes) (texts_in run.nodes) (held_in run.memory) (shows_memory command)
+pub told : (nodes seed budget : ℕ) (memory : Bool) (given : List ℕ) (names : List Text) (typed : PlainTypedTree)
+    (layout : Arrangement) (picks : ℕ → ℕ) (run : Run) (text : List ℕ) (status : Status)
+    → IsTaken nodes given names typed layout → is_built typed ≡ true → IsLayout layout
+    → ((k : ℕ) → picks k ≡ seed_word seed k)
+    → IsSimulated (job_for typed layout budget) picks run
+    → text ≡ report names layout (ends_in run.nodes) (texts_in run.nodes) (held_in run.memory) memory
     → status ≡ status_of (length run.nodes) (ends_in run.nodes)
-    → IsReportOf command given text status
-told command given names typed layout picks run text status taken built lawful same ran text_is status_is =
-    let program = program_by command typed layout in
+    → IsReportOf nodes seed budget memory given text status
+told nodes seed budget memory given names typed layout picks run text status taken built lawful same ran text_is status_is =
+    let program = program_of typed layout budget in
     let machine : Machine = machine_of program in
     let shown : Outcome = run_outcome machine run.journal in
-    let sim : IsSimulation machine (seed_word (seed_of command)) run.journal =
+    let sim : IsSimulation machine (seed_word seed) run.journal =
     record {
-      picked = picked_same machine picks (seed_word (seed_of command)) same (reverse run.journal) ran.simulated.picked;
+      picked = picked_same machine picks (seed_word seed) same (reverse run.journal) ran.simulated.picked;
       over = ran.simulated.over;
     } in
-    let legal = simulated_run machine (seed_word (seed_of command)) run.journal sim in
+    let legal = simulated_run machine (seed_word seed) run.journal sim in
     let ends : (node : ℕ) → node < layout.nodes → ends_in run.nodes node ≡ shown.ends node =
     λ node lt. end_same (slice_get run.nodes node) ∙ ran.ended.ends node lt in
     let texts : (node : ℕ) → node < layout.nodes → texts_in run.nodes node ≡ shown.texts node =
@@ -99,8 +98,8 @@ told command given names typed layout picks run text status taken built lawful s
         same = same_outcome (λ at. at) program run.journal legal;
       };
       text_is = text_is ∙ report_same names layout (ends_in run.nodes) shown.ends (texts_in run.nodes) shown.texts
-          (held_in run.memory) shown.memory (shows_memory command) lawful.some_node ends texts
-          (holds_same (job_for typed layout (budget_of command)) lawful picks run ran);
+          (held_in run.memory) shown.memory memory lawful.some_node ends texts
+          (holds_same (job_for typed layout budget) lawful picks run ran);
       status_is = status_is ∙ ap (λ n. status_of n (ends_in run.nodes)) ran.ended.count
           ∙ status_same layout.nodes (ends_in run.nodes) shown.ends ends;
     }

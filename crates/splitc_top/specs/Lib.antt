@@ -1,5 +1,8 @@
 pub mod Words
+pub mod Pairs
 pub mod Reasons
 pub mod Line
 pub mod Jobs
+pub mod Runs
+pub mod Texts
 pub mod Top

@@ -1,6 +1,6 @@
 -- Why there is no report: what each reason says, the line that tells it, and its status. The lines are this project's
 -- own.
-use Rattle.std.specs.Prelude.{◌≡◌, ℕ, ◌<◌, ◌≤◌, List, [], ◌∷◌, ◌++◌, length, Option, Some, None, IsSome, false, codes}
+use Rattle.std.specs.Prelude.{◌≡◌, ℕ, ◌<◌, ◌≤◌, List, [], ◌∷◌, ◌++◌, length, Option, Some, None, IsSome, true, false, codes}
 use Rattle.std.specs.Fmt.{decimal}
 use Rattle.std.specs.Io.KnownBytes.{Consumes, IsAtEnd}
 use Rattle.sc_io.specs.Streams.{Rose}
@@ -9,14 +9,16 @@ use Rattle.sc_tree.specs.Names.{Text}
 use Rattle.sc_tree.specs.PlainTypedTree.{PlainTypedTree}
 use Rattle.sc_layout.specs.Layout.{Arrangement}
 use Rattle.front_end.specs.Accepted.{IsAccepted, Says}
+use Rattle.splitc_compile.specs.Answers.{IsCompilable}
+use Rattle.splitc_compile.specs.Answers as compiling
 use Rattle.front_end.specs.declared.refusal.CompileError.{CompileError}
 use Rattle.front_end.specs.declared.refusal.CompileError.TheVariants as compile
 use Rattle.front_end.specs.declared.refusal.Refusal.{Refusal}
 use Rattle.front_end.specs.declared.refusal.Refusal.TheVariants as refusal
 use Rattle.tree_run.specs.Built.{is_built}
 use Rattle.run_report.specs.Report.{line}
-use Rattle.splitc_top.specs.Words.{nodes_of}
 use Rattle.splitc_top.specs.declared.words.Command.{Command}
+use Rattle.splitc_top.specs.declared.words.Command.TheVariants.{Run, Compile, Delays}
 use Rattle.splitc_top.specs.declared.reason.Reason.{Reason}
 use Rattle.splitc_top.specs.declared.reason.Reason.TheVariants as reason
 use Rattle.run_report.specs.declared.status.Status.{Status}
@@ -69,6 +71,14 @@ pub record IsTaken (nodes : ℕ) (bytes : List ℕ) (names : List Text) (typed :
   pub short : length bytes ≤ LIMITS.source
   pub accepted : IsAccepted bytes nodes names typed layout
 
+-- the source is accepted and can be run
+pub record IsBuilt (nodes : ℕ) (bytes : List ℕ) : Type 0 where
+  pub names : List Text
+  pub typed : PlainTypedTree
+  pub layout : Arrangement
+  pub taken : IsTaken nodes bytes names typed layout
+  pub built : is_built typed ≡ true
+
 -- the source is accepted, and something of it is not built yet
 pub record IsUnbuilt (nodes : ℕ) (bytes : List ℕ) : Type 0 where
   pub names : List Text
@@ -77,21 +87,41 @@ pub record IsUnbuilt (nodes : ℕ) (bytes : List ℕ) : Type 0 where
   pub taken : IsTaken nodes bytes names typed layout
   pub unbuilt : is_built typed ≡ false
 
--- the source is not run on so many nodes, for this reason
-abbrev pub IsOutside : (nodes : ℕ) → (bytes : List ℕ) → Reason → Type 0
-IsOutside nodes bytes reason.TooLong = LIMITS.source < length bytes
-IsOutside nodes bytes (reason.Refused r) = (length bytes ≤ LIMITS.source) × Says bytes nodes r
-IsOutside nodes bytes reason.NotBuilt = IsUnbuilt nodes bytes
-IsOutside nodes bytes _ = ⊥
+-- the source is within the limit, and has code
+pub record HasCode (nodes : ℕ) (bytes : List ℕ) : Type 0 where
+  pub short : length bytes ≤ LIMITS.source
+  pub compilable : IsCompilable bytes nodes
+
+-- the source is one that the command can do something with
+abbrev pub Serves : Command → (bytes : List ℕ) → Type 0
+Serves (Run nodes seed budget memory) bytes = IsBuilt nodes bytes
+Serves (Compile nodes) bytes = HasCode nodes bytes
+Serves (Delays nodes) bytes = HasCode nodes bytes
+
+-- a refusal speaks of the source: a run looks at no more of it than the front end does
+abbrev pub Refuses : Command → (bytes : List ℕ) → Refusal → Type 0
+Refuses (Run nodes seed budget memory) bytes r = Says bytes nodes r
+Refuses (Compile nodes) bytes r = compiling.Says bytes nodes r
+Refuses (Delays nodes) bytes r = compiling.Says bytes nodes r
+
+-- only what is run may be not built yet
+abbrev pub Lacks : Command → (bytes : List ℕ) → Type 0
+Lacks (Run nodes seed budget memory) bytes = IsUnbuilt nodes bytes
+Lacks (Compile nodes) bytes = ⊥
+Lacks (Delays nodes) bytes = ⊥
+
+-- the command does nothing with the source, for this reason
+abbrev pub IsOutside : Command → (bytes : List ℕ) → Reason → Type 0
+IsOutside command bytes reason.TooLong = LIMITS.source < length bytes
+IsOutside command bytes (reason.Refused r) = (length bytes ≤ LIMITS.source) × Refuses command bytes r
+IsOutside command bytes reason.NotBuilt = Lacks command bytes
+IsOutside command bytes _ = ⊥
 
 -- why there is no report of a source that was read. Want of memory may come at any time.
-abbrev pub Excuses : (nodes : ℕ) → (bytes : List ℕ) → Reason → Type 0
-Excuses nodes bytes reason.Memory = Unit {0}
-Excuses nodes bytes reason.Words = ⊥
-Excuses nodes bytes reason.Read = ⊥
-Excuses nodes bytes reason.TooLong = ⊥
-Excuses nodes bytes (reason.Refused r) = IsOutside nodes bytes (reason.Refused r)
-Excuses nodes bytes reason.NotBuilt = IsOutside nodes bytes reason.NotBuilt
+abbrev pub Excuses : Command → (bytes : List ℕ) → Reason → Type 0
+Excuses command bytes reason.Memory = Unit {0}
+Excuses command bytes reason.TooLong = ⊥
+Excuses command bytes r = IsOutside command bytes r
 
 -- ---- reasons
 
@@ -100,14 +130,14 @@ abbrev pub IsReadFor : Reason → (after : Option (List ℕ)) → Type 0
 IsReadFor reason.TooLong after = Unit {0}
 IsReadFor _ after = IsAtEnd after
 
--- the bytes that the source gave are not run, for this reason
+-- the command does nothing with the bytes that the source gave, for this reason
 pub record IsRefused (command : Option Command) (before after : Option (List ℕ)) (reason : Reason) : Type 0 where
   pub named : Command
   pub words : command ≡ Some named
   pub given : List ℕ
   pub taken : Consumes before after given
   pub ended : IsReadFor reason after
-  pub outside : IsOutside (nodes_of named) given reason
+  pub outside : IsOutside named given reason
 
 -- what the reason says of the words, of the source before and after, and of its counts of faults
 abbrev pub Holds : Option Command → (before after : Option (List ℕ)) → (faults faults_after : ℕ) → Reason → Type 0

@@ -1,9 +1,10 @@
 -- The words of the command line. Their written form, the options and their ranges are this project's own.
-use Rattle.std.specs.Prelude.{ℕ, ◌+◌, ◌*◌, ◌-◌, ◌^◌, List, [], ◌∷◌, length, Option, Some, None, true, false, ◌&&◌, nat_lt, nat_le, if◌then◌else◌, is_some, bytes_eq, codes}
+use Rattle.std.specs.Prelude.{ℕ, ◌+◌, ◌*◌, ◌-◌, ◌^◌, List, [], ◌∷◌, length, Option, Some, None, true, false}
+use Rattle.std.specs.Prelude.{◌&&◌, ◌||◌, nat_lt, nat_le, if◌then◌else◌, is_some, bytes_eq, codes}
 use Rattle.sc_base.specs.declared.limits.TheConstants.{LIMITS}
 use Rattle.splitc_top.specs.declared.words.Options.{Options}
 use Rattle.splitc_top.specs.declared.words.Command.{Command}
-use Rattle.splitc_top.specs.declared.words.Command.TheVariants.{Run}
+use Rattle.splitc_top.specs.declared.words.Command.TheVariants.{Run, Compile, Delays}
 
 -- decimal digits, read from the left after this number
 abbrev pub number_after : ℕ → List ℕ → Option ℕ
@@ -56,15 +57,31 @@ abbrev pub or_default : ℕ → Option ℕ → ℕ
 or_default d None = d
 or_default d (Some n) = n
 
-abbrev pub command_from : Option Options → Option Command
-command_from None = None
-command_from (Some o) = Some (Run (or_default 4 o.nodes) (or_default 1 o.seed) (or_default 100000 o.budget) o.memory)
+abbrev pub run_with : Option Options → Option Command
+run_with None = None
+run_with (Some o) = Some (Run (or_default 4 o.nodes) (or_default 1 o.seed) (or_default 100000 o.budget) o.memory)
+
+-- a command that takes the number of nodes alone
+abbrev pub on_nodes : (command : ℕ → Command) → Option Options → Option Command
+on_nodes command None = None
+on_nodes command (Some o) =
+    if is_some o.seed || is_some o.budget || o.memory then None else Some (command (or_default 4 o.nodes))
+
+-- the command of this name with the options
+abbrev pub command_named : List ℕ → Option Options → Option Command
+command_named name options =
+    if bytes_eq name (codes "run") then run_with options else
+    if bytes_eq name (codes "compile") then on_nodes Compile options else
+    if bytes_eq name (codes "delays") then on_nodes Delays options else
+    None
 
 -- the command that the words name, if they are in the written form
 abbrev pub command_of : List (List ℕ) → Option Command
 command_of [] = None
-command_of (word ∷ words) = if bytes_eq word (codes "run") then command_from (options_of words (Some no_options)) else None
+command_of (word ∷ words) = command_named word (options_of words (Some no_options))
 
 -- how many nodes a command asks for
 abbrev pub nodes_of : Command → ℕ
 nodes_of (Run nodes seed budget memory) = nodes
+nodes_of (Compile nodes) = nodes
+nodes_of (Delays nodes) = nodes

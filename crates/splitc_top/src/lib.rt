@@ -3,9 +3,11 @@
 
 mod job;
 mod line;
+pub mod pairs;
 pub mod reason;
 #[cfg(test)]
 mod tests;
+mod texts;
 pub mod top;
 pub mod words;
 

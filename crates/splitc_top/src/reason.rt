@@ -3,8 +3,8 @@
 ghost use Rattle.std.specs.Prelude.{◌≡◌, IfOk, string_bytes};
 ghost use Rattle.splitc_top.specs.Reasons.{refusal_line, status_of_reason};
 
-use front_end::Refusal;
 use run_report::Status;
+use splitc_compile::Refusal;
 use std::alloc::{AllocError, Global};
 
 /// Why there is no report: the words are outside the written form; the source has more bytes than the limit, is

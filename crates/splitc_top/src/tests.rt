@@ -1,7 +1,10 @@
 //! The program on whole sources. Expected texts are counted by hand.
 
+mod causes;
+mod commands;
 mod evaluation;
 mod examples;
+mod limits;
 
 use crate::top::top_still;
 use run_report::Status;
@@ -33,7 +36,15 @@ fn run_program(alloc: Global, line: &str, text: &str) -> Result<Told, Fail> {
     let mut source = SteadySource::new(text.as_bytes().to_vec(alloc)?);
     let mut out = SteadySink::new(alloc, 4096)?;
     let mut err = SteadySink::new(alloc, 4096)?;
-    let status = top_still(alloc, words.as_slice(), &mut source, &mut out, &mut err);
+    let mut made = None;
+    let status = top_still(
+        alloc,
+        words.as_slice(),
+        &mut source,
+        &mut out,
+        &mut err,
+        &mut made,
+    );
     Ok(Told {
         status: status.code(),
         out: out.bytes().to_vec(alloc)?,
@@ -361,7 +372,15 @@ fn a_failing_source_is_a_read_fault(rt: HostRuntime) -> Result<(), Fail> {
     let mut source = MemorySource::new(PRINTS_ITS_NODE.as_bytes().to_vec(alloc)?, failing, 8);
     let mut out = SteadySink::new(alloc, 4096)?;
     let mut err = SteadySink::new(alloc, 4096)?;
-    let status = top_still(alloc, words.as_slice(), &mut source, &mut out, &mut err);
+    let mut made = None;
+    let status = top_still(
+        alloc,
+        words.as_slice(),
+        &mut source,
+        &mut out,
+        &mut err,
+        &mut made,
+    );
     assert_eq!(rt; status, Status::Read);
     text_is(&rt, out.bytes(), "", "a failing source");
     text_is(&rt, err.bytes(), "splitc: read fault\n", "a failing source");
@@ -375,7 +394,15 @@ fn a_failing_sink_keeps_a_prefix(rt: HostRuntime) -> Result<(), Fail> {
     let mut source = SteadySource::new(PRINTS_ITS_NODE.as_bytes().to_vec(alloc)?);
     let mut out = MemorySink::new(alloc, 4096, vec![in alloc; 1u64]?, 8)?;
     let mut err = SteadySink::new(alloc, 4096)?;
-    let status = top_still(alloc, words.as_slice(), &mut source, &mut out, &mut err);
+    let mut made = None;
+    let status = top_still(
+        alloc,
+        words.as_slice(),
+        &mut source,
+        &mut out,
+        &mut err,
+        &mut made,
+    );
     assert_eq!(rt; status, Status::Write);
     text_is(&rt, out.bytes(), "== node ", "a failing sink");
     text_is(&rt, err.bytes(), "", "a failing sink");

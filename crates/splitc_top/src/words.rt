@@ -1,14 +1,18 @@
 //! The words of the command line.
 
 ghost use Rattle.std.specs.Prelude.{◌≡◌, ◌≤◌, map, string_bytes, Some, None, IfSome, IfOk, IfErr};
-ghost use Rattle.splitc_top.specs.Words.{number_word, with_nodes, with_seed, with_budget, with_memory, with_option, options_of, no_options, command_of};
+ghost use Rattle.splitc_top.specs.Words.{number_word, with_nodes, with_seed, with_budget, with_memory, with_option, options_of, no_options, on_nodes, command_named, command_of};
+ghost use Rattle.std.specs.Prelude.{ℕ};
+ghost use Rattle.std.specs.Option.{option_map};
 ghost use Rattle.splitc_top.specs.declared.words.WordsError.TheVariants.{Form};
+ghost use Rattle.splitc_top.specs.declared.words.Command.{Command as CommandOf};
 
 use sc_base::LIMITS;
 use std::alloc::Global;
 
-/// What the words ask for, with the default of each option that was not given. `seed` chooses the schedule, `budget`
-/// is how many loop turns and calls a node may begin, and `memory` asks for the cells in the report.
+/// What the words ask for, with the default of each option that was not given: a run, the listing of the code, or the
+/// pairs of accesses that must not overlap. `seed` chooses the schedule, `budget` is how many loop turns and calls a
+/// node may begin, and `memory` asks for the cells in the report.
 #[derive(Clone, Copy, Debug, PartialEq, Eq)]
 pub enum Command {
     Run {
@@ -16,6 +20,12 @@ pub enum Command {
         seed: u64,
         budget: u64,
         memory: bool,
+    },
+    Compile {
+        nodes: u32,
+    },
+    Delays {
+        nodes: u32,
     },
 }
 
@@ -143,8 +153,40 @@ fn options_of(words: &[String]) -> Option<Options>
     Some(options)
 }
 
-/// The command that the words name. `Form` says that they are not in the written form: `run` and its options, each at
-/// most once and in any order, `-m` alone and `-n`, `-s` and `-b` each with a number in its range.
+/// The number of nodes, where no other option was given.
+fn nodes_alone(options: Options) -> Option<u32>
+    ensures { (command : ℕ → CommandOf) → option_map command result ≡ on_nodes command (Some options) }
+{
+    if options.seed.is_some() || options.budget.is_some() || options.memory {
+        return None;
+    }
+    Some(options.nodes.unwrap_or(4))
+}
+
+/// The command of this name with the options.
+fn command_named(name: &str, options: Options) -> Option<Command>
+    ensures { result ≡ command_named name.now (Some options) }
+{
+    match name {
+        "run" => Some(Command::Run {
+            nodes: options.nodes.unwrap_or(4),
+            seed: options.seed.unwrap_or(1),
+            budget: options.budget.unwrap_or(100_000),
+            memory: options.memory,
+        }),
+        "compile" => Some(Command::Compile {
+            nodes: nodes_alone(options)?,
+        }),
+        "delays" => Some(Command::Delays {
+            nodes: nodes_alone(options)?,
+        }),
+        _ => None,
+    }
+}
+
+/// The command that the words name. `Form` says that they are not in the written form: a command and its options, each
+/// at most once and in any order, `-n` with a number in its range, and of `run` also `-s` and `-b` with theirs and `-m`
+/// alone.
 pub fn read_words(_alloc: Global, words: &[String]) -> Result<Command, WordsError>
     ensures command { IfOk result (λ c. command_of (map string_bytes words.now) ≡ Some c) }
     ensures form { IfErr result (λ e. e ≡ Form → command_of (map string_bytes words.now) ≡ None) }
@@ -152,18 +194,13 @@ pub fn read_words(_alloc: Global, words: &[String]) -> Result<Command, WordsErro
     let [command, rest @ ..] = words else {
         return Err(WordsError::Form);
     };
-    if command.as_str() != "run" {
-        return Err(WordsError::Form);
-    }
     let Some(options) = options_of(rest) else {
         return Err(WordsError::Form);
     };
-    Ok(Command::Run {
-        nodes: options.nodes.unwrap_or(4),
-        seed: options.seed.unwrap_or(1),
-        budget: options.budget.unwrap_or(100_000),
-        memory: options.memory,
-    })
+    match command_named(command.as_str(), options) {
+        Some(command) => Ok(command),
+        None => Err(WordsError::Form),
+    }
 }
 
 #[cfg(test)]
