@@ -2,7 +2,9 @@
 #![tactic(auto)]
 
 mod node;
+pub mod picks;
 mod run;
 mod steps;
 
-pub use run::run_picks;
+pub use picks::{ListPicks, Picks, SeedPicks};
+pub use run::run_code;

@@ -15,9 +15,9 @@ ghost use Rattle.code_sim.specs.Asking.{IsRunner, IsLeft};
 ghost use Rattle.code_sim.specs.UnderWay.{IsUnderWay, IsStepped, IsDelivered, IsMoved, IsEnded};
 
 use crate::node::{Runner, begun};
+use crate::picks::Picks;
 use crate::steps::{may_step, step};
 use fabric::{Fabric, Run};
-use run_sim::picks::Picks;
 use sc_base::OutOfMemory;
 use sc_isa::{Code, NodeResult, NodeResults};
 use sc_layout::Layout;
@@ -218,7 +218,7 @@ impl Simulation {
 /// Runs the code on each node of the layout, each with this budget of turns and calls, to the end: the picks name each
 /// move among those that there are, and the run ends when no move is left. Each move takes one pick. The one error is want
 /// of memory.
-pub fn run_picks<P: Picks>(
+pub fn run_code<P: Picks>(
     alloc: Global,
     code: &Code,
     layout: &Layout,

@@ -3,7 +3,7 @@ use Rattle.std.proofs.Common.{◌≡◌, ℕ, zero, suc, ◌+◌, List, [], ◌�
 use Rattle.std.proofs.Common.{refl, ap, ap₂, ◌∙◌, add-one}
 use Rattle.std.specs.List.{list_any}
 use Rattle.sc_base.specs.declared.value.End.{End}
-use Rattle.run_sim.specs.declared.result.NodeResult.{NodeResult}
+use Rattle.sc_isa.specs.declared.results.NodeResult.{NodeResult}
 use Rattle.run_report.specs.Report.{ends_in}
 use Rattle.run_report.specs.Status.{some_end, is_fault, is_cut, is_waiting, status_of}
 use Rattle.run_report.specs.declared.status.Status.TheVariants.{Ended as AllEnded, Fault as SomeFault}

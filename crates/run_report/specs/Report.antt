@@ -15,7 +15,7 @@ use Rattle.sc_base.specs.declared.value.FaultKind.TheVariants.{PendingUse, BadSi
 use Rattle.sc_tree.specs.Names.{Text}
 use Rattle.sc_layout.specs.Layout.{Arrangement, product}
 use Rattle.sc_layout.specs.Place.{place_of}
-use Rattle.run_sim.specs.declared.result.NodeResult.{NodeResult}
+use Rattle.sc_isa.specs.declared.results.NodeResult.{NodeResult}
 
 abbrev pub line : List ℕ → List ℕ
 line text = text ++ 10 ∷ []

@@ -1,14 +1,12 @@
 //! The report of a run over any layout, and the status that it gives the program.
 #![tactic(auto)]
 
-pub mod cells;
 pub mod nodes;
 mod objects;
 pub mod report;
 pub mod status;
 pub mod values;
 
-pub use cells::Cells;
 pub use report::report_text;
 pub use status::{Status, status_of_results};
 

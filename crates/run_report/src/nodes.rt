@@ -4,8 +4,8 @@ ghost use Rattle.std.specs.Prelude.{◌≡◌, ◌++◌, Some, length, string_by
 ghost use Rattle.run_report.specs.Report.{fault_name, end_text, whole_lines, node_lines, nodes_lines};
 ghost use Rattle.run_report.specs.Report.{ends_in, texts_in};
 
-use run_sim::result::NodeResult;
 use sc_base::{End, FaultKind};
+use sc_isa::NodeResult;
 use std::alloc::{AllocError, Global};
 
 /// The name of the fault.

@@ -5,8 +5,8 @@ ghost use Rattle.std.specs.List.{list_any};
 ghost use Rattle.run_report.specs.Report.{ends_in};
 ghost use Rattle.run_report.specs.Status.{code_of, is_fault, is_cut, is_waiting, status_of};
 
-use run_sim::result::NodeResult;
 use sc_base::End;
+use sc_isa::NodeResult;
 
 /// How the program ends: with the report of a run in which each node ended or in which some is at fault, is waiting or was
 /// cut (`Ended`, `Fault`, `Waiting`, `Cut`), with a refusal's line (`Words`, `Refused`, `Read`, `Memory`), or by a sink

@@ -1,39 +1,22 @@
 //! A report by hand, and the status of each end.
 
-ghost use Rattle.std.specs.Prelude.{◌≡◌, ◌+◌, ◌*◌, ◌<◌, false, IfOk, length, slice_get, unwrap_or};
+ghost use Rattle.std.specs.Prelude.{◌≡◌, ◌<◌, false, IfOk, length};
 ghost use Rattle.std.specs.List.{All};
-ghost use Rattle.sc_base.specs.declared.value.Value.TheVariants.{Null as null};
 ghost use Rattle.sc_layout.specs.Bound.{IsWhole};
 ghost use Rattle.sc_layout.specs.Layout.{IsLawful};
 
-use crate::cells::Cells;
 use crate::report::report_text;
 use crate::status::{Status, status_of_results};
-use run_sim::result::NodeResult;
+use node_memory::NodeMemory;
 use sc_base::{
     Bound, BoundStep, BoundSteps, Bounds, Bytes, End, FaultKind, OutOfMemory, Place, Shape, Star,
     Stars, Ty, Value,
 };
+use sc_isa::NodeResult;
 use sc_layout::{Layout, LayoutError, layout};
 use sc_tree::Names;
 use std::alloc::{AllocError, Global};
 use std::test::Fail;
-
-/// Values in a row: of each object eight, and of those the first four on node 0.
-#[derive(Drop)]
-struct Row {
-    values: Vec<Value>,
-}
-
-impl Cells for Row {
-    ghost held = { λ row place.
-        unwrap_or (slice_get row.values.items (place.object * 8 + place.node * 4 + place.offset)) null };
-
-    fn value(&self, place: Place) -> Value {
-        let index = place.object as usize * 8 + place.node as usize * 4 + place.offset as usize;
-        self.values.get(index).copied().unwrap_or(Value::Null)
-    }
-}
 
 fn bound(alloc: Global, value: i64) -> Result<Bound, AllocError>
     ensures { IfOk result (λ b. IsWhole b.steps) }
@@ -114,39 +97,46 @@ fn three_objects(alloc: Global) -> Result<Layout, LayoutError> {
     layout(alloc, shapes.as_slice(), 2)
 }
 
-/// What the three objects hold; what stands at no place of theirs is 99.
-fn their_values(alloc: Global) -> Result<Row, AllocError> {
-    let mut values = Vec::new(alloc);
-    for number in [
-        0,
-        -5,
-        7,
-        1,
-        2,
-        3,
-        i64::MIN,
-        i64::MAX,
-        10,
-        11,
-        40,
-        41,
-        20,
-        21,
-        99,
-        99,
-    ] {
-        values.push(Value::Int(number))?;
+/// Lets the cell hold the value, where the layout has it and the value fits it.
+fn write(memory: &mut NodeMemory, object: u32, node: u32, offset: u32, value: Value) {
+    let layout = memory.layout();
+    if object >= layout.count() || node >= layout.nodes() || offset >= layout.extent(node, object) {
+        return;
     }
-    values.push(Value::Ptr {
+    let place = Place {
+        object,
+        node,
+        offset,
+    };
+    if layout.fits(place, value) {
+        memory.write(place, value);
+    }
+}
+
+/// A memory of the three objects, with these values in their cells.
+fn their_memory(alloc: Global) -> Result<NodeMemory, LayoutError> {
+    let layout = three_objects(alloc)?;
+    let Ok(mut memory) = NodeMemory::new(alloc, &layout) else {
+        return Err(LayoutError::OutOfMemory);
+    };
+    let rows = [
+        (0, 0, [0, -5, 7, 1]),
+        (0, 1, [2, 3, i64::MIN, i64::MAX]),
+        (1, 0, [10, 11, 40, 41]),
+        (1, 1, [20, 21, 98, 99]),
+    ];
+    for (object, node, values) in rows {
+        for (offset, value) in values.iter().enumerate() {
+            write(&mut memory, object, node, offset as u32, Value::Int(*value));
+        }
+    }
+    let pointer = Value::Ptr {
         object: 1,
         node: 1,
         offset: 1,
-    })?;
-    for _ in 0..3 {
-        values.push(Value::Int(99))?;
-    }
-    values.push(Value::Null)?;
-    Ok(Row { values })
+    };
+    write(&mut memory, 2, 0, 0, pointer);
+    Ok(memory)
 }
 
 fn their_names(alloc: Global) -> Result<Names, OutOfMemory> {
@@ -170,15 +160,15 @@ fn report_of(
     nodes: &[NodeResult],
     shows_memory: bool,
 ) -> Result<Vec<u8>, LayoutError> {
-    let layout = three_objects(alloc)?;
-    let memory = their_values(alloc)?;
+    let memory = their_memory(alloc)?;
+    let layout = memory.layout();
     let Ok(names) = their_names(alloc) else {
         return Err(LayoutError::OutOfMemory);
     };
     if layout.nodes() as usize != nodes.len() {
         return Ok(Vec::new(alloc));
     }
-    match report_text(alloc, &names, &layout, nodes, &memory, shows_memory) {
+    match report_text(alloc, &names, layout, nodes, &memory, shows_memory) {
         Ok(text) => Ok(text),
         Err(_) => Err(LayoutError::OutOfMemory),
     }

@@ -1,10 +1,1 @@
-pub mod Stages
-pub mod PlainLegal
-pub mod Moves
-pub mod Cells
-pub mod Stored
-pub mod Running
-pub mod Steps
-pub mod Going
-pub mod Ending
-pub mod Headline
+pub mod Sound

@@ -1,12 +1,10 @@
-//! The simulated run of a program: its network, its journal, and the picks that order it.
+//! The simulated run of a compiled source: picks choose each next move among those of its nodes and of the messages in
+//! flight.
 #![tactic(auto)]
 
-pub mod journal;
-pub mod laws;
-pub mod memory;
-pub mod network;
-pub mod node;
-pub mod nodes;
-pub mod picks;
-pub mod result;
-pub mod run;
+mod run;
+#[cfg(test)]
+mod tests;
+
+pub use code_sim::{ListPicks, Picks, SeedPicks};
+pub use run::run_picks;

@@ -1,7 +1,7 @@
 use Rattle.std.proofs.Common.{◌≡◌, ◌++◌, Option, Some, None, [], slice_get, ap, ◌∙◌, sym}
 use Rattle.std.specs.Option.{option_map_or}
 use Rattle.std.proofs.lemmas.Option.{slice_get-get_or}
-use Rattle.run_sim.specs.declared.result.NodeResult.{NodeResult}
+use Rattle.sc_isa.specs.declared.results.NodeResult.{NodeResult}
 use Rattle.run_report.specs.Report.{node_lines, ends_in, texts_in}
 use Rattle.run_report.proofs.Lines.{each_added}
 use Rattle.run_report.proofs.nodes.add_nodes.Goals as goal
