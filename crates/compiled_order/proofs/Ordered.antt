@@ -1,20 +1,13 @@
 -- What compiled code and a whole run of it give is all that the source order asks for.
-use Rattle.std.proofs.Common.{◌≡◌, ℕ, List, [], All, reverse, refl, sym, subst}
-use Rattle.effect_order.specs.Rules.{IsByRules}
+use Rattle.std.proofs.Common.{◌≡◌, ℕ, List, All, refl, sym, subst}
 use Rattle.sc_layout.specs.Start.{start}
 use Rattle.sc_isa.specs.declared.journal.Entry.{Entry}
 use Rattle.sc_meaning.specs.declared.event.SourceEvent.{SourceEvent}
 use Rattle.sc_meaning.specs.Source.{processes_of}
-use Rattle.sc_meaning.specs.Test.{allowed}
-use Rattle.sc_meaning.specs.Whole.{IsHistory, SameOutcome, outcome}
 use Rattle.splitc_compile.specs.Compiled.{Parts, AreParts}
 use Rattle.splitc_compile.proofs.Emitted.{compiled_is_emitted}
 use Rattle.run_moves.specs.OfCode.{machine_of}
-use Rattle.source_order.specs.Whole.{run_outcome}
-use Rattle.source_order.specs.Items.{items, source_order}
-use Rattle.source_order.specs.Law.{TakesAll}
-use Rattle.source_order.specs.Moments.{does}
-use Rattle.source_order.specs.ByRules.{sorted}
+use Rattle.source_order.specs.Items.{source_order}
 use Rattle.code_requests.proofs.Making.{code_accesses_are_placed}
 use Rattle.code_requests.proofs.Waiting.{sources_wait_for_answers}
 use Rattle.compiled_runs.proofs.Compiled.{compiled_runs_are_ordered}
@@ -56,23 +49,23 @@ module _ (p : Parts) (budget : ℕ) (journal : List Entry) (are : AreParts p) (r
         can = can_be_ordered;
       })
 
+  -- the source order of the run is one of the compiled source
+  pub is_ordered : IsOrderOf p budget journal (source_order (processes_of p.layout p.core budget) journal)
+  is_ordered =
+      let whole = compiled_runs_are_ordered p budget run.0 journal are run.1 in
+      record {
+        is = refl;
+        takes = whole.ordered.takes;
+        history = whole.ordered.history;
+        same = λ many other. (compiled_runs_are_ordered p budget many journal are other).ordered.same;
+        by_rules = whole.by_rules;
+      }
+
   order_of : (order : List SourceEvent) → IsSourceOrder (start p.layout) p.layout.nodes journal order
       → IsOrderOf p budget journal order
   order_of order so =
-      let processes = processes_of p.layout p.core budget in
-      let is : order ≡ source_order processes journal =
-      so processes (machine_of p.layout p.code budget run.0) refl refl can_be_ordered in
-      let whole = compiled_runs_are_ordered p budget run.0 journal are run.1 in
-      record {
-        is = is;
-        takes = subst (TakesAll (items (start p.layout) p.layout.nodes (reverse journal))) (sym is) whole.ordered.takes;
-        history = subst (IsHistory processes) (sym is) whole.ordered.history;
-        same = λ many other.
-            subst (λ (o : List SourceEvent). SameOutcome p.layout.nodes
-            (run_outcome (machine_of p.layout p.code budget many) journal) (outcome processes o))
-            (sym is) (compiled_runs_are_ordered p budget many journal are other).ordered.same;
-        by_rules = subst (IsByRules does (allowed processes) (sorted processes (reverse journal)) []) (sym is) whole.by_rules;
-      }
+      subst (IsOrderOf p budget journal)
+      (sym (so (processes_of p.layout p.core budget) (machine_of p.layout p.code budget run.0) refl refl can_be_ordered)) is_ordered
 
   pub is_order : (given : List Entry) → given ≡ journal → (order : List SourceEvent)
       → IsSourceOrder (start p.layout) p.layout.nodes given order → IsOrderOf p budget journal order
