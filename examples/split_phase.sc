@@ -6,6 +6,7 @@ splitc_main() {
   barrier();
   x := A[(MYPROC + 1) % PROCS];
   sync();
+  barrier();
   A[0] :- x;
   all_store_sync();
   printf("%d\n", x);

@@ -6,13 +6,16 @@ use splitc_top::Status;
 use splitc_top::top::{NoGate, top};
 use std::alloc::{AllocError, Global};
 use std::env;
+use std::io::ErrorKind;
 use std::process::ExitCode;
 
-/// The words after the program's name.
+/// The words after the program's name; none where some word is no text.
 fn words(rt: &HostRuntime) -> Result<Vec<String>, AllocError> {
     let mut words = Vec::new(rt.alloc());
-    let Ok(all) = env::args(rt) else {
-        return Ok(words);
+    let all = match env::args(rt) {
+        Ok(all) => all,
+        Err(error) if error.kind() == ErrorKind::OutOfMemory => return Err(AllocError),
+        Err(_) => return Ok(words),
     };
     for word in all.skip(1) {
         words.push(word)?;

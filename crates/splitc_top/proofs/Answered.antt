@@ -86,7 +86,6 @@ module _ (call : Call) where
   words_reason reason.Words h none some = refl
   words_reason reason.TooLong h none some = let x : None ≡ Some h.holds.named = sym none ∙ h.holds.words in cc
   words_reason (reason.Refused r) h none some = let x : None ≡ Some h.holds.named = sym none ∙ h.holds.words in cc
-  words_reason reason.NotBuilt h none some = let x : None ≡ Some h.holds.named = sym none ∙ h.holds.words in cc
   words_reason reason.Read h none some =
       let x : IsSome {T = Command} None = subst (λ (o : Option Command). IsSome o) none h.holds.0 in cc
   words_reason reason.Memory h none some = absurd (some refl)

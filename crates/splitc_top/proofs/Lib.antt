@@ -1,12 +1,9 @@
 pub mod Answered
-pub mod CompiledText
 pub mod Excused
 pub mod HasPair
 pub mod Named
 pub mod Numbers
 pub mod OneAnswer
 pub mod Options
-pub mod Places
 pub mod SomeNodes
 pub mod Statuses
-pub mod Told

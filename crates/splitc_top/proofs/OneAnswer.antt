@@ -5,81 +5,34 @@ use Rattle.std.proofs.lemmas.List.{append-nil}
 use Rattle.std.specs.Io.KnownBytes.{Consumes, IsAtEnd}
 use Rattle.sc_io.specs.Streams.{Rose}
 use Rattle.sc_base.specs.declared.limits.TheConstants.{LIMITS}
-use Rattle.sc_tree.specs.Names.{Text}
-use Rattle.sc_tree.specs.PlainTypedTree.{PlainTypedTree}
-use Rattle.sc_layout.specs.Layout.{Arrangement}
-use Rattle.front_end.proofs.OneAnswer.{refused-once, accepted-once, accepted-not-refused}
-use Rattle.front_end.specs.declared.refusal.Refusal.{Refusal}
 use Rattle.sc_core.specs.Core.{Program}
 use Rattle.flow_form.specs.Accesses.{accesses_of}
 use Rattle.node_emit.specs.Whole.{AreWithin}
 use Rattle.splitc_compile.proofs.Answered.{compilable_not_refused, refused_once}
-use Rattle.splitc_compile.specs.Answers.{IsCompiled}
 use Rattle.splitc_compile.specs.Compiled.{Parts}
-use Rattle.tree_run.specs.Built.{is_built}
 use Rattle.splitc_top.specs.declared.words.Command.{Command}
 use Rattle.splitc_top.specs.declared.reason.Reason.{Reason}
 use Rattle.splitc_top.specs.declared.reason.Reason.TheVariants as reason
 use Rattle.run_report.specs.declared.status.Status.{Status}
 use Rattle.run_report.specs.declared.status.Status.TheVariants.{Refused}
-use Rattle.splitc_top.specs.declared.words.Command.TheVariants.{Run, Compile, Delays}
-use Rattle.splitc_top.specs.Reasons.{IsBuilt, IsUnbuilt, HasCode, Serves, Refuses, Lacks, IsOutside, IsRefused, IsReadFor, Holds, status_of_reason}
-use Rattle.splitc_top.specs.Texts.{IsTextOf}
+use Rattle.splitc_top.specs.declared.words.Command.TheVariants.{Run, Explain, Compile, Delays}
+use Rattle.splitc_top.specs.Words.{nodes_of}
+use Rattle.splitc_top.specs.Reasons.{Serves, IsOutside, IsRefused, IsReadFor, Holds, status_of_reason}
+use Rattle.run_texts.specs.Runs.{shown}
+use Rattle.splitc_top.specs.Texts.{Writes, IsMadeFor, IsTextOf}
 use Rattle.splitc_top.specs.Top.{IsReport, IsReported}
 use Rattle.splitc_top.proofs.Statuses.{run_reports}
-
-one_built : (a b : PlainTypedTree) → a ≡ b → is_built a ≡ true → is_built b ≡ false → ⊥
-one_built a b e f g = let x : true ≡ false = sym f ∙ ap is_built e ∙ g in cc
 
 -- ---- of one command
 
 module _ (bytes : List ℕ) where
-  built_or_not : (nodes : ℕ) → IsBuilt nodes bytes → IsUnbuilt nodes bytes → ⊥
-  built_or_not nodes t h =
-      one_built t.typed h.typed
-      (accepted-once bytes nodes t.names h.names t.typed h.typed t.layout h.layout t.taken.accepted h.taken.accepted).1 t.built
-      h.unbuilt
-
-  within_limit : (command : Command) → Serves command bytes → length bytes ≤ LIMITS.source
-  within_limit (Run nodes seed budget memory) s = s.taken.short
-  within_limit (Compile nodes) s = s.short
-  within_limit (Delays nodes) s = s.short
-
-  not_refused : (command : Command) (r : Refusal) → Serves command bytes → Refuses command bytes r → ⊥
-  not_refused (Run nodes seed budget memory) r s h =
-      accepted-not-refused bytes nodes s.names s.typed s.layout s.taken.accepted r h
-  not_refused (Compile nodes) r s h = compilable_not_refused bytes nodes r s.compilable h
-  not_refused (Delays nodes) r s h = compilable_not_refused bytes nodes r s.compilable h
-
-  not_lacking : (command : Command) → Serves command bytes → Lacks command bytes → ⊥
-  not_lacking (Run nodes seed budget memory) s h = built_or_not nodes s h
-  not_lacking (Compile nodes) s h = h
-  not_lacking (Delays nodes) s h = h
-
   -- a source that serves a command is not outside
   pub not_outside : (command : Command) → Serves command bytes → (r : Reason) → IsOutside command bytes r → ⊥
   not_outside command s reason.Words h = h
-  not_outside command s reason.TooLong h = let short = within_limit command s in omega (arith, h, short)
-  not_outside command s (reason.Refused r) h = not_refused command r s h.1
-  not_outside command s reason.NotBuilt h = not_lacking command s h
+  not_outside command s reason.TooLong h = let short = s.short in omega (arith, h, short)
+  not_outside command s (reason.Refused r) h = compilable_not_refused bytes (nodes_of command) r s.compilable h.1
   not_outside command s reason.Read h = h
   not_outside command s reason.Memory h = h
-
-  one_refusal : (command : Command) (r s : Refusal) → Refuses command bytes r → Refuses command bytes s → r ≡ s
-  one_refusal (Run nodes seed budget memory) r s a b = refused-once bytes nodes r s a b
-  one_refusal (Compile nodes) r s a b = refused_once bytes nodes r s a b
-  one_refusal (Delays nodes) r s a b = refused_once bytes nodes r s a b
-
-  refused_not_lacking : (command : Command) (r : Refusal) → Refuses command bytes r → Lacks command bytes → ⊥
-  refused_not_lacking (Run nodes seed budget memory) r a b =
-      accepted-not-refused bytes nodes b.names b.typed b.layout b.taken.accepted r a
-  refused_not_lacking (Compile nodes) r a b = b
-  refused_not_lacking (Delays nodes) r a b = b
-
-  lacking_short : (command : Command) → Lacks command bytes → length bytes ≤ LIMITS.source
-  lacking_short (Run nodes seed budget memory) b = b.taken.short
-  lacking_short (Compile nodes) b = absurd b
-  lacking_short (Delays nodes) b = absurd b
 
   -- a source is outside for one reason
   pub one_reason : (command : Command) (r s : Reason) → IsOutside command bytes r → IsOutside command bytes s → r ≡ s
@@ -91,53 +44,50 @@ module _ (bytes : List ℕ) where
   one_reason command r reason.Memory a b = absurd b
   one_reason command reason.TooLong reason.TooLong a b = refl
   one_reason command reason.TooLong (reason.Refused s) a b = absurd (omega (arith, a, b.0))
-  one_reason command reason.TooLong reason.NotBuilt a b = let short = lacking_short command b in absurd (omega (arith, a, short))
   one_reason command (reason.Refused r) reason.TooLong a b = absurd (omega (arith, b, a.0))
-  one_reason command (reason.Refused r) (reason.Refused s) a b = ap reason.Refused (one_refusal command r s a.1 b.1)
-  one_reason command (reason.Refused r) reason.NotBuilt a b = absurd (refused_not_lacking command r a.1 b)
-  one_reason command reason.NotBuilt reason.TooLong a b = let short = lacking_short command a in absurd (omega (arith, b, short))
-  one_reason command reason.NotBuilt (reason.Refused s) a b = absurd (refused_not_lacking command s b.1 a)
-  one_reason command reason.NotBuilt reason.NotBuilt a b = refl
+  one_reason command (reason.Refused r) (reason.Refused s) a b =
+      ap reason.Refused (refused_once bytes (nodes_of command) r s a.1 b.1)
 
   pub outside_status : (command : Command) (r : Reason) → IsOutside command bytes r → status_of_reason r ≡ Refused
   outside_status command reason.Words h = absurd h
   outside_status command reason.TooLong h = refl
   outside_status command (reason.Refused r) h = refl
-  outside_status command reason.NotBuilt h = refl
   outside_status command reason.Read h = absurd h
   outside_status command reason.Memory h = absurd h
 
 -- ---- texts
 
-compiled_serves : (nodes : ℕ) (given : List ℕ) (parts : Parts) → length given ≤ LIMITS.source → IsCompiled given nodes parts
-    → HasCode nodes given
-compiled_serves nodes given parts short is = record {
-  short = short;
+-- a source that was compiled for a command serves it
+made_serves : (command : Command) (given : List ℕ) (parts : Parts) → IsMadeFor command given parts → Serves command given
+made_serves command given parts made = let are = made.compiled.are_parts in record {
+  short = made.short;
   compilable = record {
     names = parts.names;
     typed = parts.typed;
     layout = parts.layout;
-    accepted = is.accepted;
-    few_sites = subst (λ (p : Program). accesses_of p ≤ LIMITS.sites) is.are_parts.core_is is.are_parts.few_sites;
-    few_locals = subst AreWithin is.are_parts.core_is is.are_parts.few_locals;
+    accepted = made.compiled.accepted;
+    few_sites = subst (λ (p : Program). accesses_of p ≤ LIMITS.sites) are.core_is are.few_sites;
+    few_locals = subst AreWithin are.core_is are.few_locals;
   };
 }
 
--- a source that has a text serves its command
-pub text_serves : (command : Command) (made : Option Parts) (given text : List ℕ) (status : Status)
+-- and so does one that has a text
+text_serves : (command : Command) (made : Option Parts) (given text : List ℕ) (status : Status)
     → IsTextOf command made given text status → Serves command given
-text_serves (Run nodes seed budget memory) made given text status t =
-    record { names = t.names; typed = t.typed; layout = t.layout; taken = t.taken; built = t.built }
-text_serves (Compile nodes) made given text status t = compiled_serves nodes given t.parts t.short t.compiled
-text_serves (Delays nodes) made given text status t = compiled_serves nodes given t.parts t.short t.compiled
+text_serves command made given text status t = made_serves command given t.parts t.made_for
 
--- and its status is one of a report
+writing_reports : (command : Command) (parts : Parts) (text : List ℕ) (status : Status)
+    → Writes command parts text status → IsReport status
+writing_reports (Run nodes seed budget memory) parts text status w =
+    subst IsReport (sym w.status_is) (run_reports parts.layout.nodes (shown parts budget w.history).ends)
+writing_reports (Explain nodes seed budget) parts text status w = inl w.1
+writing_reports (Compile nodes) parts text status w = inl w.1
+writing_reports (Delays nodes) parts text status w = inl w.1
+
+-- the status of a text is one of a report
 pub text_reports : (command : Command) (made : Option Parts) (given text : List ℕ) (status : Status)
     → IsTextOf command made given text status → IsReport status
-text_reports (Run nodes seed budget memory) made given text status t =
-    subst IsReport (sym t.status_is) (run_reports t.layout.nodes t.shown.ends)
-text_reports (Compile nodes) made given text status t = inl t.status_is
-text_reports (Delays nodes) made given text status t = inl t.status_is
+text_reports command made given text status t = writing_reports command t.parts text status t.writes
 
 -- the bytes that were taken begin those that were left, and are all of them at the end
 taken_is : (bytes given : List ℕ) (after : Option (List ℕ)) → Consumes (Some bytes) after given
@@ -180,7 +130,6 @@ module _ (command : Command) (bytes : List ℕ) (words : Option Command) (before
   told_outside faults now still reason.Words some h = let x : Some command ≡ None = sym named ∙ h in cc
   told_outside faults now still reason.TooLong some h = long_outside h
   told_outside faults now still (reason.Refused r) some h = refused_outside (reason.Refused r) (λ e. e) h
-  told_outside faults now still reason.NotBuilt some h = refused_outside reason.NotBuilt (λ e. e) h
   told_outside faults now still reason.Read some h = absurd (still h.1)
   told_outside faults now still reason.Memory some h = absurd (some refl)
 

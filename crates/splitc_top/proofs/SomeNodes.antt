@@ -4,9 +4,9 @@ use Rattle.std.specs.Prelude.{if◌then◌else◌}
 use Rattle.std.proofs.lemmas.Grind.{common_steps}
 use Rattle.sc_base.specs.declared.limits.TheConstants.{LIMITS}
 use Rattle.splitc_top.specs.declared.words.Command.{Command}
-use Rattle.splitc_top.specs.declared.words.Command.TheVariants.{Compile, Delays}
+use Rattle.splitc_top.specs.declared.words.Command.TheVariants.{Explain, Compile, Delays}
 use Rattle.splitc_top.specs.declared.words.Options.{Options}
-use Rattle.splitc_top.specs.Words.{number_after, within, number_word, with_nodes, with_seed, with_budget, with_memory, with_option, options_of, no_options, or_default, run_with, on_nodes, command_of, nodes_of}
+use Rattle.splitc_top.specs.Words.{number_after, within, number_word, with_nodes, with_seed, with_budget, with_memory, with_option, options_of, no_options, or_default, run_with, explain_with, on_nodes, command_of, nodes_of}
 
 -- the nodes that were asked for are some
 abbrev AsksSome : Option Options → Type 0
@@ -97,7 +97,7 @@ pub some_nodes : (words : List (List ℕ)) (c : Command) → command_of words �
 some_nodes [] c e = cc
 some_nodes (word ∷ words) c e =
     named (options_of words (Some no_options)) (asks_some words (Some no_options) (omega arith))
-    (bytes_eq word (codes "run")) (bytes_eq word (codes "compile")) (bytes_eq word (codes "delays")) e
+    (bytes_eq word (codes "run")) (bytes_eq word (codes "explain")) (bytes_eq word (codes "compile")) (bytes_eq word (codes "delays")) e
   where
     is_some_of : (d : Command) → Some d ≡ Some c → 0 < nodes_of d → 0 < nodes_of c
     is_some_of d x h = let s : d ≡ c = cc in subst (λ k. 0 < nodes_of k) s h
@@ -105,6 +105,15 @@ some_nodes (word ∷ words) c e =
     by_run : (o : Option Options) → AsksSome o → run_with o ≡ Some c → 0 < nodes_of c
     by_run None h x = cc
     by_run (Some o) h x = is_some_of _ x h
+
+    by_explain : (o : Option Options) → AsksSome o → explain_with o ≡ Some c → 0 < nodes_of c
+    by_explain None h x = cc
+    by_explain (Some o) h x = go o.memory x
+      where
+        go : (b : Bool) → (if b then None else Some (Explain (or_default 4 o.nodes) (or_default 1 o.seed) (or_default 100000 o.budget))) ≡ Some c
+            → 0 < nodes_of c
+        go true y = cc
+        go false y = is_some_of _ y h
 
     by_nodes : (command : ℕ → Command) → ((n : ℕ) → nodes_of (command n) ≡ n) → (o : Option Options) → AsksSome o
         → on_nodes command o ≡ Some c → 0 < nodes_of c
@@ -115,10 +124,11 @@ some_nodes (word ∷ words) c e =
         go true y = cc
         go false y = is_some_of _ y (subst (λ k. 0 < k) (sym (is (or_default 4 o.nodes))) h)
 
-    named : (o : Option Options) → AsksSome o → (run compile delays : Bool)
-        → (if run then run_with o else if compile then on_nodes Compile o else if delays then on_nodes Delays o else None) ≡ Some c
+    named : (o : Option Options) → AsksSome o → (run explain compile delays : Bool)
+        → (if run then run_with o else if explain then explain_with o else if compile then on_nodes Compile o else if delays then on_nodes Delays o else None) ≡ Some c
         → 0 < nodes_of c
-    named o h true compile delays x = by_run o h x
-    named o h false true delays x = by_nodes Compile (λ n. refl) o h x
-    named o h false false true x = by_nodes Delays (λ n. refl) o h x
-    named o h false false false x = cc
+    named o h true explain compile delays x = by_run o h x
+    named o h false true compile delays x = by_explain o h x
+    named o h false false true delays x = by_nodes Compile (λ n. refl) o h x
+    named o h false false false true x = by_nodes Delays (λ n. refl) o h x
+    named o h false false false false x = cc

@@ -40,7 +40,6 @@ reason_not_reported reason.Words h = ⊎_elim (λ e. cc) (λ h. ⊎_elim (λ e. 
 reason_not_reported reason.TooLong h = ⊎_elim (λ e. cc) (λ h. ⊎_elim (λ e. cc) (λ h. ⊎_elim (λ e. cc) (λ e. cc) h) h) h
 reason_not_reported (reason.Refused r) h = ⊎_elim (λ e. cc)
     (λ h. ⊎_elim (λ e. cc) (λ h. ⊎_elim (λ e. cc) (λ e. cc) h) h) h
-reason_not_reported reason.NotBuilt h = ⊎_elim (λ e. cc) (λ h. ⊎_elim (λ e. cc) (λ h. ⊎_elim (λ e. cc) (λ e. cc) h) h) h
 reason_not_reported reason.Read h = ⊎_elim (λ e. cc) (λ h. ⊎_elim (λ e. cc) (λ h. ⊎_elim (λ e. cc) (λ e. cc) h) h) h
 reason_not_reported reason.Memory h = ⊎_elim (λ e. cc) (λ h. ⊎_elim (λ e. cc) (λ h. ⊎_elim (λ e. cc) (λ e. cc) h) h) h
 
@@ -48,7 +47,6 @@ pub reason_not_write : (r : Reason) → status_of_reason r ≡ Write → ⊥
 reason_not_write reason.Words h = cc
 reason_not_write reason.TooLong h = cc
 reason_not_write (reason.Refused r) h = cc
-reason_not_write reason.NotBuilt h = cc
 reason_not_write reason.Read h = cc
 reason_not_write reason.Memory h = cc
 

@@ -2,7 +2,5 @@ pub mod Words
 pub mod Pairs
 pub mod Reasons
 pub mod Line
-pub mod Jobs
-pub mod Runs
 pub mod Texts
 pub mod Top

@@ -1,24 +1,18 @@
--- Why there is no report: what each reason says, the line that tells it, and its status. The lines are this project's
+-- Why there is no text: what each reason says, the line that tells it, and its status. The lines are this project's
 -- own.
-use Rattle.std.specs.Prelude.{◌≡◌, ℕ, ◌<◌, ◌≤◌, List, [], ◌∷◌, ◌++◌, length, Option, Some, None, IsSome, true, false, codes}
+use Rattle.std.specs.Prelude.{◌≡◌, ℕ, ◌<◌, ◌≤◌, List, [], ◌∷◌, ◌++◌, length, Option, Some, None, IsSome, codes}
 use Rattle.std.specs.Fmt.{decimal}
 use Rattle.std.specs.Io.KnownBytes.{Consumes, IsAtEnd}
 use Rattle.sc_io.specs.Streams.{Rose}
 use Rattle.sc_base.specs.declared.limits.TheConstants.{LIMITS}
-use Rattle.sc_tree.specs.Names.{Text}
-use Rattle.sc_tree.specs.PlainTypedTree.{PlainTypedTree}
-use Rattle.sc_layout.specs.Layout.{Arrangement}
-use Rattle.front_end.specs.Accepted.{IsAccepted, Says}
-use Rattle.splitc_compile.specs.Answers.{IsCompilable}
-use Rattle.splitc_compile.specs.Answers as compiling
+use Rattle.splitc_compile.specs.Answers.{IsCompilable, Says}
 use Rattle.front_end.specs.declared.refusal.CompileError.{CompileError}
 use Rattle.front_end.specs.declared.refusal.CompileError.TheVariants as compile
 use Rattle.front_end.specs.declared.refusal.Refusal.{Refusal}
 use Rattle.front_end.specs.declared.refusal.Refusal.TheVariants as refusal
-use Rattle.tree_run.specs.Built.{is_built}
 use Rattle.run_report.specs.Report.{line}
 use Rattle.splitc_top.specs.declared.words.Command.{Command}
-use Rattle.splitc_top.specs.declared.words.Command.TheVariants.{Run, Compile, Delays}
+use Rattle.splitc_top.specs.Words.{nodes_of}
 use Rattle.splitc_top.specs.declared.reason.Reason.{Reason}
 use Rattle.splitc_top.specs.declared.reason.Reason.TheVariants as reason
 use Rattle.run_report.specs.declared.status.Status.{Status}
@@ -46,11 +40,10 @@ abbrev pub reason_line : Reason → List ℕ
 reason_line reason.Words = line (codes "splitc: words")
 reason_line reason.TooLong = line (codes "splitc: source too long")
 reason_line (reason.Refused r) = refusal_line r
-reason_line reason.NotBuilt = line (codes "splitc: not built yet")
 reason_line reason.Read = line (codes "splitc: read fault")
 reason_line reason.Memory = line (codes "splitc: no memory")
 
--- a source that is not accepted, as a reason
+-- a source that is not compiled, as a reason
 abbrev pub reason_of : CompileError → Reason
 reason_of (compile.Refused r) = reason.Refused r
 reason_of compile.OutOfMemory = reason.Memory
@@ -59,33 +52,10 @@ abbrev pub status_of_reason : Reason → Status
 status_of_reason reason.Words = Words
 status_of_reason reason.TooLong = Refused
 status_of_reason (reason.Refused r) = Refused
-status_of_reason reason.NotBuilt = Refused
 status_of_reason reason.Read = Read
 status_of_reason reason.Memory = Memory
 
 -- ---- sources
-
--- the source has no more bytes than the limit, and is accepted on so many nodes
-pub record IsTaken (nodes : ℕ) (bytes : List ℕ) (names : List Text) (typed : PlainTypedTree)
-    (layout : Arrangement) : Type 0 where
-  pub short : length bytes ≤ LIMITS.source
-  pub accepted : IsAccepted bytes nodes names typed layout
-
--- the source is accepted and can be run
-pub record IsBuilt (nodes : ℕ) (bytes : List ℕ) : Type 0 where
-  pub names : List Text
-  pub typed : PlainTypedTree
-  pub layout : Arrangement
-  pub taken : IsTaken nodes bytes names typed layout
-  pub built : is_built typed ≡ true
-
--- the source is accepted, and something of it is not built yet
-pub record IsUnbuilt (nodes : ℕ) (bytes : List ℕ) : Type 0 where
-  pub names : List Text
-  pub typed : PlainTypedTree
-  pub layout : Arrangement
-  pub taken : IsTaken nodes bytes names typed layout
-  pub unbuilt : is_built typed ≡ false
 
 -- the source is within the limit, and has code
 pub record HasCode (nodes : ℕ) (bytes : List ℕ) : Type 0 where
@@ -94,30 +64,15 @@ pub record HasCode (nodes : ℕ) (bytes : List ℕ) : Type 0 where
 
 -- the source is one that the command can do something with
 abbrev pub Serves : Command → (bytes : List ℕ) → Type 0
-Serves (Run nodes seed budget memory) bytes = IsBuilt nodes bytes
-Serves (Compile nodes) bytes = HasCode nodes bytes
-Serves (Delays nodes) bytes = HasCode nodes bytes
-
--- a refusal speaks of the source: a run looks at no more of it than the front end does
-abbrev pub Refuses : Command → (bytes : List ℕ) → Refusal → Type 0
-Refuses (Run nodes seed budget memory) bytes r = Says bytes nodes r
-Refuses (Compile nodes) bytes r = compiling.Says bytes nodes r
-Refuses (Delays nodes) bytes r = compiling.Says bytes nodes r
-
--- only what is run may be not built yet
-abbrev pub Lacks : Command → (bytes : List ℕ) → Type 0
-Lacks (Run nodes seed budget memory) bytes = IsUnbuilt nodes bytes
-Lacks (Compile nodes) bytes = ⊥
-Lacks (Delays nodes) bytes = ⊥
+Serves command bytes = HasCode (nodes_of command) bytes
 
 -- the command does nothing with the source, for this reason
 abbrev pub IsOutside : Command → (bytes : List ℕ) → Reason → Type 0
 IsOutside command bytes reason.TooLong = LIMITS.source < length bytes
-IsOutside command bytes (reason.Refused r) = (length bytes ≤ LIMITS.source) × Refuses command bytes r
-IsOutside command bytes reason.NotBuilt = Lacks command bytes
+IsOutside command bytes (reason.Refused r) = (length bytes ≤ LIMITS.source) × Says bytes (nodes_of command) r
 IsOutside command bytes _ = ⊥
 
--- why there is no report of a source that was read. Want of memory may come at any time.
+-- why there is no text of a source that was read. Want of memory may come at any time.
 abbrev pub Excuses : Command → (bytes : List ℕ) → Reason → Type 0
 Excuses command bytes reason.Memory = Unit {0}
 Excuses command bytes reason.TooLong = ⊥
@@ -144,6 +99,5 @@ abbrev pub Holds : Option Command → (before after : Option (List ℕ)) → (fa
 Holds command before after faults faults_after reason.Words = command ≡ None
 Holds command before after faults faults_after reason.TooLong = IsRefused command before after reason.TooLong
 Holds command before after faults faults_after (reason.Refused r) = IsRefused command before after (reason.Refused r)
-Holds command before after faults faults_after reason.NotBuilt = IsRefused command before after reason.NotBuilt
 Holds command before after faults faults_after reason.Read = IsSome command × Rose faults faults_after
 Holds command before after faults faults_after reason.Memory = Unit {0}

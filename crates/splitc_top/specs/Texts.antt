@@ -4,31 +4,30 @@ use Rattle.sc_base.specs.declared.limits.TheConstants.{LIMITS}
 use Rattle.sc_isa.specs.Listing.{listing_of}
 use Rattle.splitc_compile.specs.Answers.{IsCompiled}
 use Rattle.splitc_compile.specs.Compiled.{Parts}
+use Rattle.run_texts.specs.Runs.{IsReportOf, IsExplanationOf}
 use Rattle.run_report.specs.declared.status.Status.{Status}
 use Rattle.run_report.specs.declared.status.Status.TheVariants.{Ended}
 use Rattle.splitc_top.specs.declared.words.Command.{Command}
-use Rattle.splitc_top.specs.declared.words.Command.TheVariants.{Run, Compile, Delays}
+use Rattle.splitc_top.specs.declared.words.Command.TheVariants.{Run, Explain, Compile, Delays}
 use Rattle.splitc_top.specs.Pairs.{delay_lines}
-use Rattle.splitc_top.specs.Runs.{IsReportOf}
+use Rattle.splitc_top.specs.Words.{nodes_of}
 
--- The source is compiled, and what was made of it is handed out beside the text that it gives.
-pub record IsCompiledText (nodes : ℕ) (made : Option Parts) (given text : List ℕ) (status : Status)
-    (text_of : Parts → List ℕ) : Type 0 where
-  pub parts : Parts
+-- what the command writes of a compiled source, and the status that comes with it: the report of the seed's run, its
+-- history, the listing of the code, or the pairs of accesses that must not overlap
+abbrev pub Writes : Command → Parts → (text : List ℕ) → Status → Type 0
+Writes (Run nodes seed budget memory) parts text status = IsReportOf parts seed budget memory text status
+Writes (Explain nodes seed budget) parts text status = IsExplanationOf parts seed budget text × (status ≡ Ended)
+Writes (Compile nodes) parts text status = (text ≡ listing_of parts.code) × (status ≡ Ended)
+Writes (Delays nodes) parts text status = (text ≡ delay_lines parts.delays) × (status ≡ Ended)
+
+-- The source that was given is within the limit, and is compiled to these parts on the command's nodes.
+pub record IsMadeFor (command : Command) (given : List ℕ) (parts : Parts) : Type 0 where
   pub short : length given ≤ LIMITS.source
-  pub compiled : IsCompiled given nodes parts
+  pub compiled : IsCompiled given (nodes_of command) parts
+
+-- The source is compiled, what was made of it is handed out, and the text is the command's of just that.
+pub record IsTextOf (command : Command) (made : Option Parts) (given text : List ℕ) (status : Status) : Type 0 where
+  pub parts : Parts
   pub made_is : made ≡ Some parts
-  pub text_is : text ≡ text_of parts
-  pub status_is : status ≡ Ended
-
--- a run's report; the listing of the code; or the pairs of accesses that must not overlap
-abbrev pub IsTextOf : Command → (made : Option Parts) → (given text : List ℕ) → Status → Type 0
-IsTextOf (Run nodes seed budget memory) made given text status = IsReportOf nodes seed budget memory given text status
-IsTextOf (Compile nodes) made given text status = IsCompiledText nodes made given text status (λ p. listing_of p.code)
-IsTextOf (Delays nodes) made given text status = IsCompiledText nodes made given text status (λ p. delay_lines p.delays)
-
--- what was made of the source that was given is its code on the command's nodes
-abbrev pub IsMadeFor : Command → (given : List ℕ) → Parts → Type 0
-IsMadeFor (Run nodes seed budget memory) given parts = ⊥
-IsMadeFor (Compile nodes) given parts = (length given ≤ LIMITS.source) × IsCompiled given nodes parts
-IsMadeFor (Delays nodes) given parts = (length given ≤ LIMITS.source) × IsCompiled given nodes parts
+  pub made_for : IsMadeFor command given parts
+  pub writes : Writes command parts text status

@@ -4,7 +4,7 @@ use Rattle.std.specs.Prelude.{◌&&◌, ◌||◌, nat_lt, nat_le, if◌then◌el
 use Rattle.sc_base.specs.declared.limits.TheConstants.{LIMITS}
 use Rattle.splitc_top.specs.declared.words.Options.{Options}
 use Rattle.splitc_top.specs.declared.words.Command.{Command}
-use Rattle.splitc_top.specs.declared.words.Command.TheVariants.{Run, Compile, Delays}
+use Rattle.splitc_top.specs.declared.words.Command.TheVariants.{Run, Explain, Compile, Delays}
 
 -- decimal digits, read from the left after this number
 abbrev pub number_after : ℕ → List ℕ → Option ℕ
@@ -61,6 +61,12 @@ abbrev pub run_with : Option Options → Option Command
 run_with None = None
 run_with (Some o) = Some (Run (or_default 4 o.nodes) (or_default 1 o.seed) (or_default 100000 o.budget) o.memory)
 
+-- a history shows no cells
+abbrev pub explain_with : Option Options → Option Command
+explain_with None = None
+explain_with (Some o) =
+    if o.memory then None else Some (Explain (or_default 4 o.nodes) (or_default 1 o.seed) (or_default 100000 o.budget))
+
 -- a command that takes the number of nodes alone
 abbrev pub on_nodes : (command : ℕ → Command) → Option Options → Option Command
 on_nodes command None = None
@@ -71,6 +77,7 @@ on_nodes command (Some o) =
 abbrev pub command_named : List ℕ → Option Options → Option Command
 command_named name options =
     if bytes_eq name (codes "run") then run_with options else
+    if bytes_eq name (codes "explain") then explain_with options else
     if bytes_eq name (codes "compile") then on_nodes Compile options else
     if bytes_eq name (codes "delays") then on_nodes Delays options else
     None
@@ -83,5 +90,6 @@ command_of (word ∷ words) = command_named word (options_of words (Some no_opti
 -- how many nodes a command asks for
 abbrev pub nodes_of : Command → ℕ
 nodes_of (Run nodes seed budget memory) = nodes
+nodes_of (Explain nodes seed budget) = nodes
 nodes_of (Compile nodes) = nodes
 nodes_of (Delays nodes) = nodes

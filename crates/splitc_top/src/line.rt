@@ -1,4 +1,4 @@
-//! The lines that are written where there is no report.
+//! The lines that are written where there is no text.
 
 ghost use Rattle.std.specs.Prelude.{◌≡◌, ◌⊎◌};
 ghost use Rattle.splitc_top.specs.Line.{bytes_of};
@@ -58,7 +58,6 @@ pub fn line_of(alloc: Global, reason: Reason) -> Line
             },
             Err(_) => constant(Reason::Memory, b"splitc: no memory\n"),
         },
-        Reason::NotBuilt => constant(reason, b"splitc: not built yet\n"),
         Reason::Read => constant(reason, b"splitc: read fault\n"),
         Reason::Memory => constant(reason, b"splitc: no memory\n"),
     }

@@ -1,4 +1,4 @@
-//! Why there is no report, and the line that tells it.
+//! Why there is no text, and the line that tells it.
 
 ghost use Rattle.std.specs.Prelude.{◌≡◌, IfOk, string_bytes};
 ghost use Rattle.splitc_top.specs.Reasons.{refusal_line, status_of_reason};
@@ -7,14 +7,13 @@ use run_report::Status;
 use splitc_compile::Refusal;
 use std::alloc::{AllocError, Global};
 
-/// Why there is no report: the words are outside the written form; the source has more bytes than the limit, is
-/// refused, or has what is not built yet; it failed; or memory was wanting.
+/// Why there is no text: the words are outside the written form; the source has more bytes than the limit, is refused,
+/// or failed; or memory was wanting.
 #[derive(Clone, Copy, Debug, PartialEq, Eq)]
 pub enum Reason {
     Words,
     TooLong,
     Refused(Refusal),
-    NotBuilt,
     Read,
     Memory,
 }
@@ -60,7 +59,7 @@ pub fn status_of_reason(reason: Reason) -> Status
 {
     match reason {
         Reason::Words => Status::Words,
-        Reason::TooLong | Reason::Refused(_) | Reason::NotBuilt => Status::Refused,
+        Reason::TooLong | Reason::Refused(_) => Status::Refused,
         Reason::Read => Status::Read,
         Reason::Memory => Status::Memory,
     }

@@ -9,9 +9,10 @@ ghost use Rattle.splitc_top.specs.Top.{IsReported, IsMade, IsAnswer, stream};
 
 use crate::line::line_of;
 use crate::reason::{Reason, status_of_reason};
-use crate::texts::{Report, text_of};
+use crate::texts::text_of;
 use crate::words::{WordsError, read_words};
 use run_report::Status;
+use run_texts::Report;
 use sc_base::LIMITS;
 use sc_io::{ReadError, Sink, Source, read_all, write_all};
 use splitc_compile::Compiled;
@@ -51,8 +52,8 @@ fn prepare<S: Source>(
 }
 
 /// Does what the words say with the source, writes the text to `out`, and a refusal's line to `err`. The text is made
-/// whole before its first byte is written, and after a sink has failed nothing more is written. `made` becomes what was
-/// made of the source for `compile` and `delays`, and None where nothing was.
+/// whole before its first byte is written, and after a sink has failed nothing more is written. `made` becomes what the
+/// source was compiled to, and None where nothing was made of it.
 pub fn top_still<S: Source, K: Sink, E: Sink>(
     alloc: Global,
     words: &[String],

@@ -1,7 +1,7 @@
 //! The words of the command line.
 
 ghost use Rattle.std.specs.Prelude.{◌≡◌, ◌≤◌, map, string_bytes, Some, None, IfSome, IfOk, IfErr};
-ghost use Rattle.splitc_top.specs.Words.{number_word, with_nodes, with_seed, with_budget, with_memory, with_option, options_of, no_options, on_nodes, command_named, command_of};
+ghost use Rattle.splitc_top.specs.Words.{number_word, with_nodes, with_seed, with_budget, with_memory, with_option, options_of, no_options, explain_with, on_nodes, command_named, command_of, nodes_of};
 ghost use Rattle.std.specs.Prelude.{ℕ};
 ghost use Rattle.std.specs.Option.{option_map};
 ghost use Rattle.splitc_top.specs.declared.words.WordsError.TheVariants.{Form};
@@ -10,9 +10,9 @@ ghost use Rattle.splitc_top.specs.declared.words.Command.{Command as CommandOf};
 use sc_base::LIMITS;
 use std::alloc::Global;
 
-/// What the words ask for, with the default of each option that was not given: a run, the listing of the code, or the
-/// pairs of accesses that must not overlap. `seed` chooses the schedule, `budget` is how many loop turns and calls a
-/// node may begin, and `memory` asks for the cells in the report.
+/// What the words ask for, with the default of each option that was not given: the report of a run, the history of a run,
+/// the listing of the code, or the pairs of accesses that must not overlap. `seed` chooses the schedule, `budget` is how
+/// many loop turns and calls a node may begin, and `memory` asks for the cells in the report.
 #[derive(Clone, Copy, Debug, PartialEq, Eq)]
 pub enum Command {
     Run {
@@ -21,12 +21,31 @@ pub enum Command {
         budget: u64,
         memory: bool,
     },
+    Explain {
+        nodes: u32,
+        seed: u64,
+        budget: u64,
+    },
     Compile {
         nodes: u32,
     },
     Delays {
         nodes: u32,
     },
+}
+
+impl Command {
+    /// How many nodes the command asks for, of which there is at least one where it was read from words.
+    pub fn nodes(&self) -> u32
+        ensures { result ≡ nodes_of self.now }
+    {
+        match self {
+            Command::Run { nodes, .. } => *nodes,
+            Command::Explain { nodes, .. } => *nodes,
+            Command::Compile { nodes } => *nodes,
+            Command::Delays { nodes } => *nodes,
+        }
+    }
 }
 
 /// Why the words name no command.
@@ -163,6 +182,20 @@ fn nodes_alone(options: Options) -> Option<u32>
     Some(options.nodes.unwrap_or(4))
 }
 
+/// The command that tells the history of a run, which shows no cells.
+fn explain_with(options: Options) -> Option<Command>
+    ensures { result ≡ explain_with (Some options) }
+{
+    if options.memory {
+        return None;
+    }
+    Some(Command::Explain {
+        nodes: options.nodes.unwrap_or(4),
+        seed: options.seed.unwrap_or(1),
+        budget: options.budget.unwrap_or(100_000),
+    })
+}
+
 /// The command of this name with the options.
 fn command_named(name: &str, options: Options) -> Option<Command>
     ensures { result ≡ command_named name.now (Some options) }
@@ -174,6 +207,7 @@ fn command_named(name: &str, options: Options) -> Option<Command>
             budget: options.budget.unwrap_or(100_000),
             memory: options.memory,
         }),
+        "explain" => explain_with(options),
         "compile" => Some(Command::Compile {
             nodes: nodes_alone(options)?,
         }),
@@ -185,8 +219,8 @@ fn command_named(name: &str, options: Options) -> Option<Command>
 }
 
 /// The command that the words name. `Form` says that they are not in the written form: a command and its options, each
-/// at most once and in any order, `-n` with a number in its range, and of `run` also `-s` and `-b` with theirs and `-m`
-/// alone.
+/// at most once and in any order, `-n` with a number in its range, of `run` and `explain` also `-s` and `-b` with theirs,
+/// and of `run` alone `-m`, which has no number.
 pub fn read_words(_alloc: Global, words: &[String]) -> Result<Command, WordsError>
     ensures command { IfOk result (λ c. command_of (map string_bytes words.now) ≡ Some c) }
     ensures form { IfErr result (λ e. e ≡ Form → command_of (map string_bytes words.now) ≡ None) }
@@ -200,79 +234,5 @@ pub fn read_words(_alloc: Global, words: &[String]) -> Result<Command, WordsErro
     match command_named(command.as_str(), options) {
         Some(command) => Ok(command),
         None => Err(WordsError::Form),
-    }
-}
-
-#[cfg(test)]
-mod tests {
-    use super::*;
-    use std::alloc::AllocError;
-    use std::test::Fail;
-
-    fn words_of(alloc: Global, line: &str) -> Result<Vec<String>, AllocError> {
-        let mut words = Vec::new(alloc);
-        for word in line.split(' ') {
-            if !word.is_empty() {
-                words.push(word.to_string(alloc)?)?;
-            }
-        }
-        Ok(words)
-    }
-
-    fn run(nodes: u32, seed: u64, budget: u64, memory: bool) -> Result<Command, WordsError> {
-        Ok(Command::Run {
-            nodes,
-            seed,
-            budget,
-            memory,
-        })
-    }
-
-    #[test]
-    fn the_written_form(rt: HostRuntime) -> Result<(), Fail> {
-        let outside = Err(WordsError::Form);
-        let rows = [
-            ("run", run(4, 1, 100_000, false)),
-            ("run -n 2", run(2, 1, 100_000, false)),
-            ("run -n 16 -m", run(16, 1, 100_000, true)),
-            ("run -m -s 007", run(4, 7, 100_000, true)),
-            ("run -b 0 -n 00000000000000000001", run(1, 1, 0, false)),
-            (
-                "run -s 18446744073709551615",
-                run(4, u64::MAX, 100_000, false),
-            ),
-            ("run -b 1000000", run(4, 1, 1_000_000, false)),
-            ("run -n 0", outside),
-            ("run -n 17", outside),
-            ("run -n 2 -n 2", outside),
-            ("run -n2", outside),
-            ("run -n=2", outside),
-            ("run --n 2", outside),
-            ("run --", outside),
-            ("run -h", outside),
-            ("run -n", outside),
-            ("run -n -m", outside),
-            ("run -n +2", outside),
-            ("run -n 2x", outside),
-            ("run -m -m", outside),
-            ("run -s 000000000000000000001", outside),
-            ("run -s 18446744073709551616", outside),
-            ("run -s 99999999999999999999", outside),
-            ("run -b 1000001", outside),
-            ("run run", outside),
-            ("-n 2 run", outside),
-            ("go", outside),
-            ("threads", outside),
-            ("", outside),
-        ];
-        for (line, wanted) in rows {
-            let words = words_of(rt.alloc(), line)?;
-            assert_eq!(rt;
-                read_words(rt.alloc(), words.as_slice()),
-                wanted,
-                "at {line}"
-            );
-        }
-        Ok(())
     }
 }

@@ -1,22 +1,21 @@
-use Rattle.std.proofs.Common.{sym, subst}
+use Rattle.std.proofs.Common.{ℕ, sym, subst}
+use Rattle.splitc_compile.specs.Answers.{IsCompiled}
+use Rattle.splitc_compile.specs.Answers as compiling
 use Rattle.splitc_compile.specs.Compiled.{parts_of}
-use Rattle.splitc_compile.proofs.Begins.{listed}
 use Rattle.splitc_top.specs.declared.reason.Reason.{Reason}
-use Rattle.splitc_top.specs.declared.words.Command.TheVariants.{Compile, Delays}
 use Rattle.splitc_top.specs.Reasons.{Excuses}
-use Rattle.splitc_top.proofs.Excused.{compile_excused, delays_excused}
+use Rattle.splitc_top.proofs.Excused.{excused}
 use Rattle.splitc_top.proofs.texts.compiled_of.Goals as goal
 
-pub returns-in-Ok-clause-named : goal.returns-in-Ok-clause-named
-returns-in-Ok-clause-named c =
-    listed (parts_of c.in-Ok.compiled) c.in-Ok.ensures.compiled.are_parts
+pub returns-in-Ok-clause-compiled : goal.returns-in-Ok-clause-compiled
+returns-in-Ok-clause-compiled c = record {
+  short = c.requires.short;
+  compiled = subst (λ (n : ℕ). IsCompiled c.args.source.now n (parts_of c.in-Ok.compiled)) c.nodes.ensures
+      c.in-Ok.ensures.compiled;
+}
 
-pub returns-in-Err-clause-compile : goal.returns-in-Err-clause-compile
-returns-in-Err-clause-compile c =
-    subst (λ (r : Reason). Excuses (Compile c.args.nodes) c.args.source.now r) (sym c.reason_of.ensures)
-    (compile_excused c.args.nodes c.args.source.now c.in-Err.e c.requires.short c.in-Err.ensures.refused)
-
-pub returns-in-Err-clause-delays : goal.returns-in-Err-clause-delays
-returns-in-Err-clause-delays c =
-    subst (λ (r : Reason). Excuses (Delays c.args.nodes) c.args.source.now r) (sym c.reason_of.ensures)
-    (delays_excused c.args.nodes c.args.source.now c.in-Err.e c.requires.short c.in-Err.ensures.refused)
+pub returns-in-Err-clause-refused : goal.returns-in-Err-clause-refused
+returns-in-Err-clause-refused c =
+    subst (λ (r : Reason). Excuses c.args.command c.args.source.now r) (sym c.reason_of.ensures)
+    (excused c.args.command c.args.source.now c.in-Err.e c.requires.short
+    (subst (λ (n : ℕ). compiling.Excuses c.args.source.now n c.in-Err.e) c.nodes.ensures c.in-Err.ensures.refused))

@@ -1,4 +1,0 @@
-pub mod Doing
-pub mod Printing
-pub mod History
-pub mod Laws
