@@ -1,12 +1,12 @@
 -- What the program answers, by what was written.
-use Rattle.std.proofs.Common.{◌≡◌, ◌≢◌, ◌⊎◌, inl, inr, ⊎_elim, ℕ, ◌<◌, List, [], ◌++◌, length, take, Option, Some}
+use Rattle.std.proofs.Common.{◌≡◌, ◌≢◌, ◌⊎◌, inl, inr, ⊎_elim, ℕ, ◌<◌, List, [], length, take, Option, Some}
 use Rattle.std.proofs.Common.{None, refl, sym, ap, ◌∙◌, subst}
 use Rattle.std.specs.Prelude.{IsSome}
 use Rattle.std.proofs.lemmas.List.{append-nil}
 use Rattle.sc_io.specs.Streams.{Gains}
 use Rattle.splitc_top.specs.Reasons.{reason_line, status_of_reason}
 use Rattle.splitc_compile.specs.Compiled.{Parts}
-use Rattle.splitc_top.specs.Top.{Call, Failed, Gained, GainedPart, Tells, IsCause, IsAnswer, IsReport, IsRefusal, IsMade}
+use Rattle.splitc_top.specs.Top.{Call, Failed, Gained, GainedPart, Tells, IsCause, IsAnswer, IsReport, IsMade}
 use Rattle.splitc_top.specs.declared.words.Command.{Command}
 use Rattle.splitc_top.specs.declared.reason.Reason.{Reason}
 use Rattle.splitc_top.specs.declared.reason.Reason.TheVariants as reason

@@ -1,5 +1,5 @@
 -- Which statuses come with a report, and which with the line of a reason.
-use Rattle.std.proofs.Common.{◌≡◌, ◌⊎◌, inl, inr, ⊎_elim, refl, ℕ, Option, Bool, true, false, if◌then◌else◌}
+use Rattle.std.proofs.Common.{◌≡◌, inl, inr, ⊎_elim, refl, ℕ, Option, Bool, true, false, if◌then◌else◌}
 use Rattle.sc_base.specs.declared.value.End.{End}
 use Rattle.run_report.specs.Status.{some_end, is_fault, is_cut, is_waiting, status_of}
 use Rattle.splitc_top.specs.declared.reason.Reason.{Reason}

@@ -1,4 +1,4 @@
-use Rattle.std.proofs.Common.{◌≡◌, ◌++◌}
+use Rattle.std.proofs.Common.{◌≡◌}
 use Rattle.run_report.specs.Report.{each_from}
 use Rattle.splitc_top.specs.Pairs.{pair_line}
 use Rattle.splitc_top.proofs.pairs.delay_text.Given as goal
