@@ -7,8 +7,6 @@ pub mod runner;
 mod statements;
 pub mod step;
 mod task;
-#[cfg(test)]
-mod tests;
 
 pub use runner::Runner;
 pub use step::{Answer, Halt, Step};

@@ -9,6 +9,3 @@ pub mod relations;
 
 pub use analysis::delays;
 pub use laws::delays_are_of_order;
-
-#[cfg(test)]
-mod tests;

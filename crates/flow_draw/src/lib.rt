@@ -10,6 +10,3 @@ pub mod places;
 pub use around::Around;
 pub use drawing::{Drawing, Outer};
 pub use locals::Locals;
-
-#[cfg(test)]
-mod tests;

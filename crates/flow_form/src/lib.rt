@@ -7,8 +7,6 @@ pub mod gather;
 pub mod laws;
 pub mod scan;
 pub mod sorted;
-#[cfg(test)]
-mod tests;
 
 pub use count::Count;
 pub use error::FlowError;

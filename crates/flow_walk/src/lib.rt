@@ -3,8 +3,6 @@
 
 pub mod actions;
 pub mod source;
-#[cfg(test)]
-mod tests;
 pub mod walk;
 
 pub use source::flow;

@@ -7,6 +7,3 @@ pub mod refusal;
 
 pub use accepted::{Accepted, accept};
 pub use refusal::{CompileError, Refusal};
-
-#[cfg(test)]
-mod tests;

@@ -5,7 +5,5 @@ mod affine;
 mod chain;
 mod form;
 mod offset;
-#[cfg(test)]
-mod tests;
 
 pub use form::{form_of_chain, form_of_place};

@@ -11,6 +11,3 @@ pub mod pure;
 pub mod quick;
 
 pub use node::{Answer, Asked, Node};
-
-#[cfg(test)]
-mod tests;

@@ -8,6 +8,3 @@ pub mod noting;
 pub mod uneven;
 
 pub use mapping::{phases, phases_early};
-
-#[cfg(test)]
-mod tests;

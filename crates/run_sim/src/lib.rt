@@ -3,8 +3,6 @@
 #![tactic(auto)]
 
 mod run;
-#[cfg(test)]
-mod tests;
 
 pub use code_sim::{ListPicks, Picks, SeedPicks};
 pub use run::run_picks;

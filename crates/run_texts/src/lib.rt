@@ -6,6 +6,3 @@ pub mod texts;
 
 pub use runs::{Report, explanation, run_report};
 pub use texts::{history_text, report_text};
-
-#[cfg(test)]
-mod tests;

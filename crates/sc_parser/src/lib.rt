@@ -12,6 +12,3 @@ pub mod whole;
 
 pub use sc_grammar::ParseError;
 pub use whole::parse;
-
-#[cfg(test)]
-mod tests;

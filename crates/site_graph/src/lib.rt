@@ -18,6 +18,3 @@ pub use plan::{Conflicts, Phases, Plan, WaitRows};
 pub use point::{LocalList, NODE_MARK, Point, PointKind, Points};
 pub use reaching::{first_edges, reach, reach_from, search, search_any};
 pub use site::{Form, IndexForm, Site, SiteKind, SiteList, Sites};
-
-#[cfg(test)]
-mod tests;

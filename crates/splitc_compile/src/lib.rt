@@ -7,6 +7,3 @@ pub mod laws;
 
 pub use compiled::{Compiled, compile};
 pub use front_end::{CompileError, Refusal};
-
-#[cfg(test)]
-mod tests;

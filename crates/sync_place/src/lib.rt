@@ -61,6 +61,3 @@ fn first_demands(alloc: Global, flow: &Flow, delays: &BitRows) -> Result<BitRows
     let first = pending(alloc, flow, &demand)?;
     Ok(first)
 }
-
-#[cfg(test)]
-mod tests;

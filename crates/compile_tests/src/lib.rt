@@ -1,0 +1,5 @@
+//! Tests alone, of compiled sources.
+#![tactic(auto)]
+
+#[cfg(test)]
+mod tests;

@@ -1,0 +1,4 @@
+//! One module for each crate.
+
+mod core_run;
+mod node_machine;

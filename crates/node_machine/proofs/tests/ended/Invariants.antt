@@ -1,6 +1,0 @@
-use Rattle.std.proofs.Common.{◌≤◌}
-use Rattle.node_machine.specs.Nodes.{HasCounters}
-use Rattle.node_machine.proofs.tests.ended.Given as goal
-
-abbrev pub invariant-loop-asks : goal.invariant-loop-asks
-invariant-loop-asks l = HasCounters l.code l.node × (l.next ≤ l.asks)
