@@ -4,4 +4,5 @@ mod flow_draw;
 mod flow_form;
 mod flow_walk;
 mod index_form;
+mod programs;
 mod site_graph;

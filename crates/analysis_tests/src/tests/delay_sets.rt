@@ -1,7 +1,8 @@
 //! Delays of small flows by hand.
 
+use super::flows::{edges_of, is_set, sites_of};
 use delay_sets::delays;
-use site_graph::{BitRows, Conflicts, Edge, Flow, Point, PointKind, Site, SiteKind};
+use site_graph::{BitRows, Conflicts, Flow, Point, PointKind, SiteKind};
 use sqlite_items::Items;
 use std::alloc::{AllocError, Global};
 use std::test::Fail;
@@ -30,23 +31,8 @@ fn flow(alloc: Global, case: &Case) -> Result<Option<Flow>, AllocError> {
             writes: None,
         })?;
     }
-    let mut sites = Items::new(alloc);
-    for kind in case.sites {
-        sites.push(Site {
-            kind: *kind,
-            line: 1,
-            reads: None,
-            writes: None,
-            fills: None,
-        })?;
-    }
-    let mut edges = Items::new(alloc);
-    for (from, to) in case.edges {
-        edges.push(Edge {
-            from: *from,
-            to: *to,
-        })?;
-    }
+    let sites = sites_of(alloc, case.sites)?;
+    let edges = edges_of(alloc, case.edges)?;
     Ok(Flow::new(points, edges, sites, Items::new(alloc)))
 }
 
@@ -82,10 +68,6 @@ fn found(alloc: Global, case: &Case) -> Result<Option<BitRows>, AllocError> {
         return Ok(None);
     }
     Ok(delays(alloc, &flow, &Conflicts { cross, own }).ok())
-}
-
-fn is_set(rows: &BitRows, row: u32, column: u32) -> bool {
-    row < rows.rows() && column < rows.columns() && rows.get(row, column)
 }
 
 /// Whether these delays are found, and no others.

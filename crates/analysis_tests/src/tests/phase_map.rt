@@ -1,7 +1,8 @@
 //! Phases of small flows by hand.
 
+use super::flows::{edges_of, is_set, sites_of};
 use phase_map::{phases, phases_early};
-use site_graph::{BitRows, Edge, Flow, NODE_MARK, Phases, Point, PointKind, Site, SiteKind};
+use site_graph::{Flow, NODE_MARK, Phases, Point, PointKind, SiteKind};
 use sqlite_items::Items;
 use std::alloc::{AllocError, Global};
 use std::test::Fail;
@@ -60,28 +61,9 @@ fn flow(
             writes: step.writes,
         })?;
     }
-    let mut sites = Items::new(alloc);
-    for kind in kinds {
-        sites.push(Site {
-            kind: *kind,
-            line: 1,
-            reads: None,
-            writes: None,
-            fills: None,
-        })?;
-    }
-    let mut list = Items::new(alloc);
-    for (from, to) in edges {
-        list.push(Edge {
-            from: *from,
-            to: *to,
-        })?;
-    }
+    let sites = sites_of(alloc, kinds)?;
+    let list = edges_of(alloc, edges)?;
     Ok(Flow::new(points, list, sites, Items::new(alloc)))
-}
-
-fn is_set(rows: &BitRows, row: u32, column: u32) -> bool {
-    row < rows.rows() && column < rows.columns() && rows.get(row, column)
 }
 
 /// Whether these pairs of so many sites are all that do not meet.

@@ -1,5 +1,6 @@
 //! Counts, lists and refusals, by hand.
 
+use super::programs::program_of;
 use flow_form::error::FlowError;
 use flow_form::gather::Wanted;
 use flow_form::scan::scan_source;
@@ -14,28 +15,11 @@ use sqlite_items::Items;
 use std::alloc::{AllocError, Global};
 use std::test::Fail;
 
-/// A function of `int` that does this.
-fn function_of(alloc: Global, body: CoreStmt) -> CoreFunction {
-    CoreFunction {
-        params: Items::new(alloc),
-        others: Items::new(alloc),
-        result: Ty {
-            void: false,
-            stars: Stars::from_vec(Vec::new(alloc)),
-        },
-        body,
-        line: 1,
-    }
-}
-
-fn program_of(alloc: Global, all: Vec<CoreStmt>) -> Result<CoreProgram, AllocError> {
-    let mut functions = Items::new(alloc);
-    functions.push(function_of(alloc, CoreStmt::Block(Items::from_vec(all))))?;
-    Ok(CoreProgram {
-        functions,
-        main: 0,
-        texts: Texts::from_vec(Vec::new(alloc)),
-    })
+/// A source of one function that does all this.
+fn one_function(alloc: Global, all: Vec<CoreStmt>) -> Result<CoreProgram, AllocError> {
+    let mut bodies = Vec::new(alloc);
+    bodies.push(CoreStmt::Block(Items::from_vec(all)))?;
+    program_of(alloc, bodies)
 }
 
 fn acting(alloc: Global, action: Action) -> CoreStmt {
@@ -94,7 +78,7 @@ fn sites_up_to_the_limit_are_accepted(rt: HostRuntime) -> Result<(), Fail> {
         for _ in 0..count {
             all.push(acting(alloc, Action::Put))?;
         }
-        let program = program_of(alloc, all)?;
+        let program = one_function(alloc, all)?;
         match scan_source(alloc, &program) {
             Ok(whole) => {
                 assert_eq!(rt; refused, None);
@@ -110,7 +94,7 @@ fn sites_up_to_the_limit_are_accepted(rt: HostRuntime) -> Result<(), Fail> {
 #[test]
 fn a_function_returns_at_its_end(rt: HostRuntime) -> Result<(), Fail> {
     let alloc = rt.alloc();
-    let program = program_of(alloc, writes_and_exposes(alloc)?)?;
+    let program = one_function(alloc, writes_and_exposes(alloc)?)?;
     match scan_source(alloc, &program) {
         Ok(whole) => {
             assert_eq!(rt; whole.entries.as_slice().len(), 1);
@@ -127,7 +111,7 @@ fn a_function_returns_at_its_end(rt: HostRuntime) -> Result<(), Fail> {
 #[test]
 fn what_a_source_exposes_and_writes(rt: HostRuntime) -> Result<(), Fail> {
     let alloc = rt.alloc();
-    let program = program_of(alloc, writes_and_exposes(alloc)?)?;
+    let program = one_function(alloc, writes_and_exposes(alloc)?)?;
     let rows = [
         (Wanted::Exposed, [5].as_slice()),
         (Wanted::Written, [3, 1].as_slice()),

@@ -3,6 +3,7 @@
 mod accesses;
 mod statements;
 
+use super::programs::program_of;
 use flow_form::FlowError;
 use flow_walk::source::flow;
 use sc_base::{Stars, Ty};
@@ -15,33 +16,6 @@ use site_graph::{Form, IndexForm, PointKind};
 use sqlite_items::{Boxed, Items};
 use std::alloc::{AllocError, Global};
 use std::test::Fail;
-
-/// A function of `int` that does this.
-fn function_of(alloc: Global, body: CoreStmt) -> CoreFunction {
-    CoreFunction {
-        params: Items::new(alloc),
-        others: Items::new(alloc),
-        result: Ty {
-            void: false,
-            stars: Stars::from_vec(Vec::new(alloc)),
-        },
-        body,
-        line: 1,
-    }
-}
-
-/// A source whose first function is `splitc_main`.
-fn program_of(alloc: Global, bodies: Vec<CoreStmt>) -> Result<CoreProgram, AllocError> {
-    let mut functions = Items::new(alloc);
-    for body in bodies {
-        functions.push(function_of(alloc, body))?;
-    }
-    Ok(CoreProgram {
-        functions,
-        main: 0,
-        texts: Texts::from_vec(Vec::new(alloc)),
-    })
-}
 
 fn step(alloc: Global, operation: Operation, arguments: CoreExprs) -> CoreExpr {
     CoreExpr {

@@ -1,10 +1,6 @@
 //! Small cores by hand: what they request, print and end with.
 
-ghost use Rattle.std.specs.Prelude.{◌≡◌, false, IfOk};
-ghost use Rattle.std.specs.List.{All};
-ghost use Rattle.sc_layout.specs.Bound.{IsWhole};
-ghost use Rattle.sc_layout.specs.Layout.{IsLawful};
-
+use super::cells::{numbers, on_two_nodes, ordinary};
 use core_run::runner::Runner;
 use core_run::step::{Answer, Halt, Step};
 use sc_base::{
@@ -21,50 +17,13 @@ use std::alloc::{AllocError, Global};
 use std::process::Abort;
 use std::test::Fail;
 
-fn number(alloc: Global, value: i64) -> Result<Bound, AllocError>
-    ensures { IfOk result (λ b. IsWhole b.steps) }
-{
-    let mut steps = Vec::new(alloc);
-    steps.push(BoundStep::Number(value))?;
-    Ok(Bound {
-        steps: BoundSteps::from_vec(steps),
-        line: 7,
-    })
-}
-
-fn bounds(alloc: Global, value: i64) -> Result<Bounds, AllocError>
-    ensures { IfOk result (λ bs. All (λ b. IsWhole b.steps) bs) }
-{
-    let mut all = Vec::new(alloc);
-    all.push(number(alloc, value)?)?;
-    Ok(Bounds::from_vec(all))
-}
-
-fn ordinary(alloc: Global, left: Bounds) -> Result<Shape, AllocError>
-    requires { All (λ b. IsWhole b.steps) left }
-    ensures { IfOk result IsLawful }
-{
-    Ok(Shape {
-        name: 0,
-        ty: int(alloc),
-        spread: false,
-        left,
-        right: Bounds::from_vec(Vec::new(alloc)),
-        at: 1,
-        line: 1,
-    })
-}
-
 /// `int A[3];` on two nodes.
 fn three_cells(alloc: Global) -> Result<Option<Layout>, AllocError> {
-    let mut shapes = Vec::new(alloc);
-    shapes.push(ordinary(alloc, bounds(alloc, 3)?)?)?;
-    Ok(layout(alloc, shapes.as_slice(), 2).ok())
+    let bounds = numbers(alloc, &[3])?;
+    on_two_nodes(alloc, ordinary(alloc, bounds)?)
 }
 
-fn int(alloc: Global) -> Ty
-    ensures { result.void ≡ false }
-{
+fn int(alloc: Global) -> Ty {
     Ty {
         void: false,
         stars: Stars::from_vec(Vec::new(alloc)),

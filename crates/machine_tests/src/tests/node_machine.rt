@@ -1,10 +1,6 @@
 //! Codes assembled by hand, and what they ask, print and end with.
 
-ghost use Rattle.std.specs.Prelude.{IfOk};
-ghost use Rattle.std.specs.List.{All};
-ghost use Rattle.sc_layout.specs.Bound.{IsWhole};
-ghost use Rattle.sc_layout.specs.Layout.{IsLawful};
-
+use super::cells::{numbers, on_two_nodes, ordinary};
 use node_machine::node::{Answer, Asked, Node};
 use sc_base::{
     Binary, Bound, BoundStep, BoundSteps, Bounds, Bytes, CopyMode, End, FaultKind, Shape, Star,
@@ -17,58 +13,10 @@ use std::alloc::{AllocError, Global};
 use std::process::Abort;
 use std::test::Fail;
 
-fn number(alloc: Global, value: i64) -> Result<Bound, AllocError>
-    ensures { IfOk result (λ b. IsWhole b.steps) }
-{
-    let mut steps = Vec::new(alloc);
-    steps.push(BoundStep::Number(value))?;
-    Ok(Bound {
-        steps: BoundSteps::from_vec(steps),
-        line: 7,
-    })
-}
-
-fn numbers(alloc: Global, values: &[i64]) -> Result<Bounds, AllocError>
-    ensures { IfOk result (λ bs. All (λ b. IsWhole b.steps) bs) }
-{
-    let mut bounds = Vec::new(alloc);
-    for value in values {
-        let bound = number(alloc, *value)?;
-        bounds.push(bound)?;
-    }
-    Ok(Bounds::from_vec(bounds))
-}
-
-fn ordinary(alloc: Global, bounds: Bounds) -> Result<Shape, AllocError>
-    requires { All (λ b. IsWhole b.steps) bounds }
-    ensures { IfOk result IsLawful }
-{
-    Ok(Shape {
-        name: 0,
-        ty: Ty {
-            void: false,
-            stars: Stars::from_vec(Vec::new(alloc)),
-        },
-        spread: false,
-        left: bounds,
-        right: Bounds::from_vec(Vec::new(alloc)),
-        at: 1,
-        line: 1,
-    })
-}
-
-fn one(alloc: Global, shape: Shape) -> Result<Option<Layout>, AllocError>
-    requires { IsLawful shape }
-{
-    let mut shapes = Vec::new(alloc);
-    shapes.push(shape)?;
-    Ok(layout(alloc, shapes.as_slice(), 2).ok())
-}
-
 /// `int A[2][3];` on two nodes.
 fn two_nodes(alloc: Global) -> Result<Option<Layout>, AllocError> {
     let bounds = numbers(alloc, &[2, 3])?;
-    one(alloc, ordinary(alloc, bounds)?)
+    on_two_nodes(alloc, ordinary(alloc, bounds)?)
 }
 
 /// The code of `splitc_main` from the beginning on, and of a function of one parameter and two locals from `second`.

@@ -1,5 +1,5 @@
 use Rattle.sc_layout.specs.Bound.{number}
-use Rattle.machine_tests.proofs.tests.node_machine.number.Goals as goal
+use Rattle.machine_tests.proofs.tests.cells.number.Goals as goal
 
 pub returns : goal.returns
 returns c = rw (c.from_vec.ensures, c.in_ok-push.ensures.items, c.new-steps.ensures.items) (number _)

@@ -1,5 +1,0 @@
-use Rattle.sc_layout.specs.Bound.{number}
-use Rattle.machine_tests.proofs.tests.core_run.number.Goals as goal
-
-pub returns : goal.returns
-returns c = rw (c.from_vec.ensures, c.in_ok-push.ensures.items, c.new-steps.ensures.items) (number _)
