@@ -1,5 +1,7 @@
 //! Picks by a list and by a seed.
 
+ghost use Rattle.std.specs.Prelude.{◌<◌};
+
 use code_sim::{ListPicks, Picks, SeedPicks};
 use std::test::Fail;
 
