@@ -1,7 +1,7 @@
 -- A node's run is followed by what is left of it.
 use Rattle.std.proofs.Common.{◌≡◌, ℕ, Bool, true, false, if◌then◌else◌, List, [], ◌∷◌, ◌++◌, length, Option, Some, None, is_some, slice_get, refl, sym, ap, ◌∙◌, append_assoc}
 use Rattle.std.proofs.lemmas.List.{append-nil}
-use Rattle.resumption.specs.Resumption.{Doing, Asks, Makes, Says, Stops, RunOf, RunEnd, Ends, Short, Followed, unanswered, after_event, run_of, next_text, past_text}
+use Rattle.resumption.specs.Resumption.{Asks, Makes, Stops, RunOf, RunEnd, Ends, Short, Followed, unanswered, after_event, run_of, next_text, past_text}
 use Rattle.resumption.specs.Laws.{run_after}
 use Rattle.resumption.proofs.Next.{says}
 use Rattle.sc_layout.specs.Layout.{Arrangement}

@@ -1,6 +1,6 @@
 -- How far a node's run has come: what it did under the answers that it got, and what it does from there on.
 use Rattle.std.specs.Prelude.{◌≡◌, ℕ, List, [], ◌∷◌, ◌++◌, length, Some, Bool, true, false, slice_get}
-use Rattle.resumption.specs.Resumption.{Doing, Asks, Makes, Stops, Ends, Short, run_of, next_text, past_text}
+use Rattle.resumption.specs.Resumption.{Asks, Makes, Stops, Ends, Short, run_of, next_text, past_text}
 use Rattle.resumption.specs.Laws.{run_after}
 use Rattle.sc_meaning.specs.declared.request.Request.{Request}
 use Rattle.sc_meaning.specs.Asking.{Answer, Halt, SourceDoing}

@@ -2,7 +2,6 @@
 -- execution of Lamport's "How to make a multiprocessor computer that correctly executes multiprocess programs" (1979).
 use Rattle.std.specs.Prelude.{◌≡◌, ℕ, ◌<◌, List, Option, Some, None, is_some, length, slice_get}
 use Rattle.std.specs.Option.{option_and_then}
-use Rattle.sc_base.specs.declared.value.End.{End}
 use Rattle.sc_base.specs.declared.value.Place.{Place}
 use Rattle.sc_base.specs.declared.value.Value.{Value}
 use Rattle.sc_layout.specs.Layout.{Arrangement}

@@ -1,0 +1,9 @@
+pub mod Fronts
+pub mod Sources
+pub mod Cells
+pub mod Reaching
+pub mod Taking
+pub mod Stopping
+pub mod Passing
+pub mod Releasing
+pub mod Whole

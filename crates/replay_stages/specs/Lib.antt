@@ -1,0 +1,4 @@
+pub mod Courses
+pub mod Stage
+pub mod Laws
+pub mod Ending
