@@ -15,7 +15,7 @@ fn text_is(rt: &impl Abort, told: &[u8], wanted: &str, about: &str) {
 }
 
 /// The source, which is a right one, compiled for two nodes.
-fn compiled(alloc: Global, source: &str) -> Result<Compiled, Fail>
+pub fn compiled(alloc: Global, source: &str) -> Result<Compiled, Fail>
     ensures { IfOk result (λ c. AreParts (parts_of c)) }
 {
     let bytes = source.as_bytes();
