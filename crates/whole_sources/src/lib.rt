@@ -1,0 +1,5 @@
+//! Tests alone: what the program answers to whole sources.
+#![tactic(auto)]
+
+#[cfg(test)]
+mod tests;
