@@ -33,7 +33,7 @@ struct Ended {
 }
 
 /// Runs the program. What it made is given up here, where nothing can fail.
-fn ended<S: Source, K: Sink, E: Sink>(
+fn run_over<S: Source, K: Sink, E: Sink>(
     alloc: Global,
     words: &[String],
     source: &mut S,
@@ -62,7 +62,7 @@ fn run_program(alloc: Global, line: &str, text: &str) -> Result<Told, Fail> {
     let mut source = SteadySource::new(text.as_bytes().to_vec(alloc)?);
     let mut out = SteadySink::new(alloc, 4096)?;
     let mut err = SteadySink::new(alloc, 4096)?;
-    let ended = ended(alloc, words.as_slice(), &mut source, &mut out, &mut err);
+    let ended = run_over(alloc, words.as_slice(), &mut source, &mut out, &mut err);
     Ok(Told {
         status: ended.status.code(),
         out: out.bytes().to_vec(alloc)?,
@@ -389,7 +389,7 @@ fn a_failing_source_is_a_read_fault(rt: HostRuntime) -> Result<(), Fail> {
     let mut source = MemorySource::new(PRINTS_ITS_NODE.as_bytes().to_vec(alloc)?, failing, 8);
     let mut out = SteadySink::new(alloc, 4096)?;
     let mut err = SteadySink::new(alloc, 4096)?;
-    let ended = ended(alloc, words.as_slice(), &mut source, &mut out, &mut err);
+    let ended = run_over(alloc, words.as_slice(), &mut source, &mut out, &mut err);
     assert_eq!(rt; ended.status, Status::Read);
     text_is(&rt, out.bytes(), "", "a failing source");
     text_is(&rt, err.bytes(), "splitc: read fault\n", "a failing source");
@@ -403,7 +403,7 @@ fn a_failing_sink_keeps_a_prefix(rt: HostRuntime) -> Result<(), Fail> {
     let mut source = SteadySource::new(PRINTS_ITS_NODE.as_bytes().to_vec(alloc)?);
     let mut out = MemorySink::new(alloc, 4096, vec![in alloc; 1u64]?, 8)?;
     let mut err = SteadySink::new(alloc, 4096)?;
-    let ended = ended(alloc, words.as_slice(), &mut source, &mut out, &mut err);
+    let ended = run_over(alloc, words.as_slice(), &mut source, &mut out, &mut err);
     assert_eq!(rt; ended.status, Status::Write);
     text_is(&rt, out.bytes(), "== node ", "a failing sink");
     text_is(&rt, err.bytes(), "", "a failing sink");

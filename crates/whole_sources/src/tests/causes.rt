@@ -2,7 +2,7 @@
 //! found by hand.
 
 use super::commands::{DEKKER, LOOP};
-use super::{ended, text_is, words_of};
+use super::{run_over, text_is, words_of};
 use sc_io::{MemorySink, MemorySource, SteadySink, SteadySource};
 use splitc_compile::Compiled;
 use splitc_top::top::top_still;
@@ -51,7 +51,7 @@ fn check(rt: &impl Abort, alloc: Global, cause: &Cause) -> Result<(), Fail> {
     let mut source = MemorySource::new(bytes, calls(alloc, cause.failing.source)?, 8);
     let mut out = MemorySink::new(alloc, 4096, calls(alloc, cause.failing.out)?, 8)?;
     let mut err = MemorySink::new(alloc, 4096, calls(alloc, cause.failing.err)?, 8)?;
-    let ended = ended(alloc, words.as_slice(), &mut source, &mut out, &mut err);
+    let ended = run_over(alloc, words.as_slice(), &mut source, &mut out, &mut err);
     assert_eq!(rt;
         ended.status.code(),
         cause.status,
