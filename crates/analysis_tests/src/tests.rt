@@ -1,6 +1,6 @@
-//! One module for each crate.
+//! One module for each crate, and what they share.
 
-mod delay_sets;
+mod delaying;
 mod flows;
-mod phase_map;
-mod sync_place;
+mod phasing;
+mod placing;

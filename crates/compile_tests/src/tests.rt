@@ -1,3 +1,5 @@
-//! One module for each crate.
+//! Core trees and code of sources.
 
-mod splitc_compile;
+mod emitted;
+mod lowered;
+mod placed;

@@ -1,8 +1,8 @@
-//! One module for each crate.
+//! One module for each crate, and what they share.
 
-mod flow_draw;
-mod flow_form;
-mod flow_walk;
-mod index_form;
+mod bits;
+mod drawing;
+mod indices;
 mod programs;
-mod site_graph;
+mod scanning;
+mod walking;

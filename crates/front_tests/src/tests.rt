@@ -1,4 +1,4 @@
 //! One module for each crate.
 
-mod front_end;
-mod sc_parser;
+mod parsing;
+mod refusals;

@@ -1,5 +1,5 @@
-//! One module for each crate.
+//! One module for each crate, and what they share.
 
 mod cells;
-mod core_run;
-mod node_machine;
+mod codes;
+mod cores;

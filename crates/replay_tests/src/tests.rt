@@ -1,4 +1,4 @@
 //! One module for each crate.
 
-mod history_replay;
-mod replay_tables;
+mod judging;
+mod keeping;

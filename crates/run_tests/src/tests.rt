@@ -1,6 +1,6 @@
-//! One module for each crate.
+//! One module for each crate, and what they share.
 
-mod code_sim;
+mod picking;
 mod replayed;
-mod run_sim;
-mod run_texts;
+mod running;
+mod telling;

@@ -2,7 +2,7 @@
 
 ghost use Rattle.splitc_compile.specs.Compiled.{AreParts, parts_of};
 
-use super::run_texts::compiled;
+use super::telling::compiled;
 use compiled_order::order;
 use history_replay::replay;
 use run_sim::{ListPicks, run_picks};

@@ -1,5 +1,0 @@
-//! Core trees and code of sources.
-
-mod emitted;
-mod lowered;
-mod placed;
