@@ -1,5 +1,5 @@
 -- The run by picks of a compiled source is a whole run of its code.
-use Rattle.std.proofs.Common.{ℕ, ◌≤◌, arith}
+use Rattle.std.proofs.Common.{ℕ, arith}
 use Rattle.fabric.specs.declared.state.Run.{Run}
 use Rattle.splitc_compile.specs.Compiled.{Parts}
 use Rattle.run_sim.specs.Runs.{IsRunOf}

@@ -1,5 +1,4 @@
 use Rattle.splitc_compile.specs.Compiled.{parts_of}
-use Rattle.code_sim.specs.contracts.picks.ListPicksPicks.TheImpl.{ghosts}
 use Rattle.run_tests.proofs.Whole.{of_code}
 use Rattle.run_tests.proofs.tests.replayed.ordered.Goals as goal
 
