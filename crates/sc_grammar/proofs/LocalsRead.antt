@@ -13,7 +13,7 @@ use Rattle.sc_grammar.specs.Expressions.{IsStars, IsAssign}
 use Rattle.sc_grammar.specs.Statements.{int_with, IsInitial, no_initial, some_initial, IsLocal, local_name, IsMoreLocals, no_more_locals, one_more_local, IsOptional, left_out, given}
 use Rattle.sc_grammar.proofs.Reading.{Parser, is_mark, many, name_in}
 use Rattle.sc_grammar.proofs.ReadingExpressions.{begins_expression}
-use Rattle.sc_grammar.proofs.ReadingStatements.{initial, local, one_more_local as another_local, locals, optional_before, test}
+use Rattle.sc_grammar.proofs.ReadingStatements.{initial, local, one_more_local as another_local, locals, optional_before, condition}
 use Rattle.sc_grammar.proofs.Local.{Local, Consumes, Advances, local-bind, local-here, local-pure, local-must, local-many, local-if_taken, local-if_next, advances-none, advances-if_taken, consumes-first, consumes-second, consumes-must}
 use Rattle.sc_grammar.proofs.Fits.{Fits, Sample, After, fits-bind, fits-pure}
 use Rattle.sc_grammar.proofs.FitsTokens.{Matches, OneMore, fits-here, never_idle, fits-must, fits-if_taken, fits-if_next, fits-mark, fits-many, was-mark}
@@ -173,22 +173,22 @@ module _ (limit d : ℕ) (le : d ≤ limit) (value : Parser Expression) (hv : Ex
 
   -- ---- tests
 
-  pub local-test : Local (test value)
-  unfolding test
+  pub local-test : Local (condition value)
+  unfolding condition
   local-test = local-bind (local-must _) (λ u. local-bind hv.local (λ e. local-bind (local-must _) (λ v. local-pure _)))
 
-  pub consumes-test : Consumes (test value)
-  unfolding test
+  pub consumes-test : Consumes (condition value)
+  unfolding condition
   consumes-test = consumes-first (consumes-must _) (λ u. local-bind hv.local (λ e. local-bind (local-must _) (λ v. local-pure _)))
 
-  pub fits-test : Fits (test value) (IsTest d)
-  unfolding test
+  pub fits-test : Fits (condition value) (IsTest d)
+  unfolding condition
   fits-test =
       fits-bind (fits-mark marks.OpenRound d) (λ u. fits-bind hv.fits (λ e.
       fits-bind (fits-mark marks.CloseRound d) (λ v. fits-pure e (λ f c t b h a o. in_parentheses o h t))))
 
-  pub reads-test : (ts : List Token) (a b : Rest) (e : Expression) → IsTest d a b e → Stands ts a → Reads limit ts a b e (test value)
-  unfolding test
+  pub reads-test : (ts : List Token) (a b : Rest) (e : Expression) → IsTest d a b e → Stands ts a → Reads limit ts a b e (condition value)
+  unfolding condition
   reads-test ts a f e (in_parentheses {b = b} {c = c} t h u) s =
       reads-mark limit ts marks.OpenRound _ t le s (λ r. reads-bind limit ts _ (hv.reads ts b c e h r (without _ u refl)) (λ q.
       reads-mark limit ts marks.CloseRound _ u le q (λ z. reads-pure limit ts z)))

@@ -13,7 +13,7 @@ use Rattle.sc_grammar.specs.Rest.{Rest, Takes, takes, number_of, line_of}
 use Rattle.sc_grammar.specs.Expressions.{IsAssign}
 use Rattle.sc_grammar.specs.Statements.{is_else, IsOptional, IsStatement, while_statement, do_statement, for_statement, for_mine_statement}
 use Rattle.sc_grammar.proofs.Reading.{Parser, ◌>>=◌, pure, mark, is_word, name_in}
-use Rattle.sc_grammar.proofs.ReadingStatements.{optional_before, test, while_after, do_after, for_after, for_mine_after, by_other_word, by_loop_word}
+use Rattle.sc_grammar.proofs.ReadingStatements.{optional_before, while_after, do_after, for_after, for_mine_after, by_other_word, by_loop_word}
 use Rattle.sc_grammar.proofs.Local.{Local, Consumes, local-bind, local-here, local-pure, local-must, local-if_taken, consumes-first, consumes-must, consumes-if_taken}
 use Rattle.sc_grammar.proofs.Fits.{Rule, Fits, Sample, After, sample_more, fits-bind, fits-pure, fits-wider}
 use Rattle.sc_grammar.proofs.FitsTokens.{Was, TakesMark, Matches, At, fits-here, never_idle, fits-if_taken, fits-must, fits-mark, fits-word, was-word}

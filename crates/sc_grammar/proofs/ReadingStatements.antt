@@ -101,8 +101,8 @@ module _ (value : Parser Expression) where
       optional_until marks.CloseRound >>= λ next. pure (record { first = first; test = e; next = next })
 
   -- "(" assign ")"
-  unfoldable pub test : Parser Expression
-  test = mark marks.OpenRound >>= λ _. value >>= λ e. mark marks.CloseRound >>= λ _. pure e
+  unfoldable pub condition : Parser Expression
+  condition = mark marks.OpenRound >>= λ _. value >>= λ e. mark marks.CloseRound >>= λ _. pure e
 
   -- after the left side
   unfoldable pub split_after : Bool → Position → Expression → Parser Statement
@@ -136,7 +136,7 @@ module _ (value : Parser Expression) (inner : Parser Statement) where
   -- ---- statements, after their first word
 
   unfoldable pub arm_after : Parser Arm
-  arm_after = test value >>= λ e. inner >>= λ s. pure (arm e s)
+  arm_after = condition value >>= λ e. inner >>= λ s. pure (arm e s)
 
   -- at most so many arms
   unfoldable pub elses_by : ℕ → Parser Elses
@@ -156,11 +156,11 @@ module _ (value : Parser Expression) (inner : Parser Statement) where
   if_after = arm_after >>= λ x. elses >>= λ r. pure (if_of x r)
 
   unfoldable pub while_after : Parser Statement
-  while_after = test value >>= λ e. inner >>= λ s. pure (while_ e s)
+  while_after = condition value >>= λ e. inner >>= λ s. pure (while_ e s)
 
   unfoldable pub do_after : Parser Statement
   do_after =
-      inner >>= λ s. word words.While >>= λ _. test value >>= λ e. mark marks.Semicolon >>= λ _. pure (do_while s e)
+      inner >>= λ s. word words.While >>= λ _. condition value >>= λ e. mark marks.Semicolon >>= λ _. pure (do_while s e)
 
   unfoldable pub for_after : Parser Statement
   for_after =

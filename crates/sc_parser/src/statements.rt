@@ -128,9 +128,9 @@ impl Reader<'_> {
     }
 
     /// The expression in parentheses that an `if` or a loop tests.
-    #[tactic(auto, unfolding(sc_grammar::proofs::Reading::bind, sc_grammar::proofs::Reading::pure, sc_grammar::proofs::Reading::maybe, sc_grammar::proofs::Reading::takes_if, sc_grammar::proofs::ReadingStatements::test))]
+    #[tactic(auto, unfolding(sc_grammar::proofs::Reading::bind, sc_grammar::proofs::Reading::pure, sc_grammar::proofs::Reading::maybe, sc_grammar::proofs::Reading::takes_if, sc_grammar::proofs::ReadingStatements::condition))]
     fn test(&mut self, levels: usize) -> Result<Expr, Refused>
-        ensures moves { Gives plain result self.old self.new (statements.test (expressions.assigned levels)) }
+        ensures moves { Gives plain result self.old self.new (statements.condition (expressions.assigned levels)) }
     {
         self.mark(Mark::OpenRound)?;
         let e = self.assigned(levels)?;
