@@ -4,7 +4,7 @@ use Rattle.std.specs.Prelude.{IsSome, is_some}
 use Rattle.std.specs.Option.{option_and_then, option_map, option_map_or, option_or, unwrap_or}
 use Rattle.std.specs.List.{find}
 use Rattle.std.proofs.lemmas.Bool.Decides.{eqb_tells}
-use Rattle.std.proofs.lemmas.List.{reverse-append}
+use Rattle.std.proofs.lemmas.List.{reverse-append, length-map}
 use Rattle.std.proofs.lemmas.Option.{slice_get_within, get_or_from_slice_get, slice_get-map}
 use Rattle.sc_base.specs.declared.value.Place.{Place}
 use Rattle.sc_base.specs.declared.value.Value.{Value}
@@ -125,22 +125,25 @@ holds_written layout c p v q = by (cell_in c.known p) refl
         ∙ ap (λ s. unwrap_or (option_or (cell_in c.known q) s) (start layout q)) stray
         ∙ apart (same_place p q) refl e
 
--- a cell stays one
-pub placed_written : (c : CellBook) (p : Place) (v : Value) (q : Place) → IsSome (cell_in c.known q) → IsSome (cell_in (with_cell c p v).known q)
-placed_written c p v q h = by (cell_in c.known p) refl
+-- the cells stay the same ones
+pub placed_written : (c : CellBook) (p : Place) (v : Value) (q : Place) → is_some (cell_in (with_cell c p v).known q) ≡ is_some (cell_in c.known q)
+placed_written c p v q = by (cell_in c.known p) refl
   where
-    out : (b : Bool) (o : Option Value) → IsSome o → IsSome (if b then Some v else o)
-    out true o i = refl
-    out false o i = i
+    out : (b : Bool) (o : Option Value) → (b ≡ true → IsSome o) → is_some (if b then Some v else o) ≡ is_some o
+    out true o i = sym (i refl)
+    out false o i = refl
 
-    by : (o : Option Value) → cell_in c.known p ≡ o → IsSome (cell_in (with_cell c p v).known q)
+    by : (o : Option Value) → cell_in c.known p ≡ o → is_some (cell_in (with_cell c p v).known q) ≡ is_some (cell_in c.known q)
     by (Some w) e =
-        subst (λ b. IsSome (cell_in (if b then record c { known = with_known c.known p v } else record c { strays = c.strays ++ record { place = p; value = v } ∷ [] }).known q))
+        subst (λ b. is_some (cell_in (if b then record c { known = with_known c.known p v } else record c { strays = c.strays ++ record { place = p; value = v } ∷ [] }).known q)
+        ≡ is_some (cell_in c.known q))
         (sym (ap is_some e))
-        (subst IsSome (sym (cell_written c.known p v q (ap is_some e))) (out (same_place p q) (cell_in c.known q) h))
+        (ap is_some (cell_written c.known p v q (ap is_some e))
+        ∙ out (same_place p q) (cell_in c.known q) (λ s. ap is_some (ap (cell_in c.known) (sym (place_is p q s)) ∙ e)))
     by None e =
-        subst (λ b. IsSome (cell_in (if b then record c { known = with_known c.known p v } else record c { strays = c.strays ++ record { place = p; value = v } ∷ [] }).known q))
-        (sym (ap is_some e)) h
+        subst (λ b. is_some (cell_in (if b then record c { known = with_known c.known p v } else record c { strays = c.strays ++ record { place = p; value = v } ∷ [] }).known q)
+        ≡ is_some (cell_in c.known q))
+        (sym (ap is_some e)) refl
 
 -- ---- before any write
 
@@ -181,6 +184,35 @@ start_in layout p is =
         → option_and_then (λ values. slice_get values p.offset) (option_map (object_start layout p.node) o) ≡ Some (zero_in o)
     by None h = absurd (omega arith)
     by (Some x) h = get_copies (cells_of layout.nodes x p.node) p.offset (zero_of x.shape.ty.stars) h
+
+copies_within : (n i : ℕ) (w : Value) → IsSome (slice_get (replicate n w) i) → i < n
+copies_within zero i w g = absurd cc
+copies_within (suc n) zero w g = omega arith
+copies_within (suc n) (suc i) w g = let lt = copies_within n i w g in omega arith
+
+-- what is known at the start are cells of the layout
+pub only_start : (layout : Arrangement) (p : Place) → IsSome (cell_in (known_at_start layout) p) → IsPlace layout p
+only_start layout p h =
+    by (slice_get layout.objects p.object) refl
+    (sym (ap is_some (ap (option_and_then (λ objects. object_at objects p.object p.offset)) (get_below (node_start layout) layout.nodes p.node node_within)
+    ∙ ap (option_and_then (λ values. slice_get values p.offset)) (slice_get-map (object_start layout p.node) layout.objects p.object))) ∙ h)
+  where
+    node_within : p.node < layout.nodes
+    node_within =
+        let s = some_then (λ objects. object_at objects p.object p.offset) (slice_get (known_at_start layout) p.node) h in
+        let lt : p.node < length (known_at_start layout) = slice_get_within (known_at_start layout) p.node s.0 s.1 in
+        let l : length (known_at_start layout) ≡ length (numbers_below layout.nodes) = length-map (numbers_below layout.nodes) (node_start layout) in
+        let m = length_below layout.nodes in omega arith
+
+    by : (o : Option LaidObject) → slice_get layout.objects p.object ≡ o
+        → IsSome (option_and_then (λ values. slice_get values p.offset) (option_map (object_start layout p.node) o)) → IsPlace layout p
+    by None e g = absurd cc
+    by (Some x) e g = record {
+      object = slice_get_within layout.objects p.object x e;
+      node = node_within;
+      offset = subst (λ o. p.offset < option_map_or (λ y. cells_of layout.nodes y p.node) o 0) (sym e)
+          (copies_within (cells_of layout.nodes x p.node) p.offset (zero_of x.shape.ty.stars) g);
+    }
 
 -- a cell that is known at the start holds what its object begins with
 known_start : (layout : Arrangement) (p : Place) (v : Value) → cell_in (known_at_start layout) p ≡ Some v → v ≡ start layout p

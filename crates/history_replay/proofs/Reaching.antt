@@ -29,7 +29,7 @@ use Rattle.replay_tables.specs.Cells.{known_at_start}
 use Rattle.replay_stages.proofs.Courses.{courses_are_followed}
 use Rattle.history_replay.specs.Fronts.{first_front}
 use Rattle.history_replay.proofs.Sources.{source_waits}
-use Rattle.history_replay.proofs.Cells.{holds_start, start_in}
+use Rattle.history_replay.proofs.Cells.{holds_start, start_in, only_start}
 use Rattle.history_replay.specs.declared.judge.Judge.{Judge}
 use Rattle.history_replay.specs.Fronts.{AllAt, said}
 use Rattle.history_replay.specs.Reached.{Reached, NextAt}
@@ -115,6 +115,8 @@ a_turn processes past old new node number o e reached tables cells layout many a
     all = all;
     placed = λ place is. subst (λ c. IsSome (cell_in c.known place)) (sym cells)
         (reached.placed place (subst (λ l. IsPlace l.now place) layout is));
+    only = λ place h. subst (λ l. IsPlace l.now place) (sym layout)
+        (reached.only place (subst (λ c. IsSome (cell_in c.known place)) cells h));
   };
   next = next
       ∙ sym (next_past (reached.fronts node).rest)
@@ -163,4 +165,6 @@ begun layout program budget new laid tables cells many all =
       all = all;
       placed = λ place is. subst (λ c. IsSome (cell_in c.known place)) (sym cells)
           (subst IsSome (sym (start_in layout place (subst (λ l. IsPlace l place) laid is))) refl);
+      only = λ place h. subst (λ l. IsPlace l place) (sym laid)
+          (only_start layout place (subst (λ c. IsSome (cell_in c.known place)) cells h));
     }

@@ -1,6 +1,6 @@
 -- How a judge goes on with an event, or no history does.
 use Rattle.std.proofs.Common.{◌≡◌, ℕ, ◌<◌, List, [], ◌∷◌, ◌++◌, length, Option, Some, None, Bool, true, false, ◌==◌, ◌&&◌, refl, sym, ap, ◌∙◌, subst, arith, if◌then◌else◌}
-use Rattle.std.specs.Prelude.{IsSome, Result, Ok, Err, IfOk, OnOk}
+use Rattle.std.specs.Prelude.{IsSome, is_some, Result, Ok, Err, IfOk, OnOk}
 use Rattle.std.specs.Option.{option_map_or}
 use Rattle.std.proofs.lemmas.List.{append-nil}
 use Rattle.resumption.specs.Resumption.{next_event}
@@ -68,7 +68,7 @@ module _ (processes : Processes) (past : List SourceEvent) (event : SourceEvent)
   pub reaches : (tables : TablesBook) (cells : CellBook) (shows : Place → Value) (fronts : ℕ → Front) → Becomes new old tables cells
       → Stage processes (event ∷ past) tables shows fronts
       → ((place : Place) → holds old.layout.now cells place ≡ shows place)
-      → ((place : Place) → IsSome (cell_in old.cells.known place) → IsSome (cell_in cells.known place))
+      → ((place : Place) → is_some (cell_in cells.known place) ≡ is_some (cell_in old.cells.known place))
       → AllAt new.nodes.runners.items fronts → Reached processes (event ∷ past) new
   reaches tables cells shows fronts b stage same kept all = record {
     fronts = fronts;
@@ -79,7 +79,9 @@ module _ (processes : Processes) (past : List SourceEvent) (event : SourceEvent)
     counted = reached.counted ∙ ap (λ l. l.now.nodes) (sym b.as_layout);
     all = all;
     placed = λ place is. subst (λ c. IsSome (cell_in c.known place)) (sym b.as_cells)
-        (kept place (reached.placed place (subst (λ l. IsPlace l.now place) b.as_layout is)));
+        (kept place ∙ reached.placed place (subst (λ l. IsPlace l.now place) b.as_layout is));
+    only = λ place h. subst (λ l. IsPlace l.now place) (sym b.as_layout)
+        (reached.only place (sym (kept place) ∙ subst (λ c. IsSome (cell_in c.known place)) b.as_cells h));
   }
 
 module _ (processes : Processes) (past : List SourceEvent) (event : SourceEvent) (old new : Judge) (node number : ℕ) (r : Request)
@@ -136,7 +138,7 @@ module _ (processes : Processes) (past : List SourceEvent) (event : SourceEvent)
             let go = taken (processes.starts node) (answers processes node past) (requests_of (row_at old.tables node)) fronts r
             n.reached.all here c next is t in
             reaches processes past event old new n.reached tables old.cells shows (with_front fronts node go.front) b
-            (stage go.front go.course) (λ place. refl) (λ place h. h) go.all;
+            (stage go.front go.course) (λ place. refl) (λ place. refl) go.all;
         doomed = λ f.
             g.stuck node event answer within ans
             (refused (processes.starts node) (answers processes node past) (requests_of (row_at old.tables node)) fronts r
@@ -156,7 +158,7 @@ module _ (processes : Processes) (past : List SourceEvent) (event : SourceEvent)
       → ((f : Front) → StoodPast processes past old.tables shows fronts node [] r f
       → Stage processes (event ∷ past) tables after (with_front fronts node f))
       → ((place : Place) → holds old.layout.now cells place ≡ after place)
-      → ((place : Place) → IsSome (cell_in old.cells.known place) → IsSome (cell_in cells.known place))
+      → ((place : Place) → is_some (cell_in cells.known place) ≡ is_some (cell_in old.cells.known place))
       → Becomes new old tables cells → WillPass → Taken processes past event new true
   passed tables cells after is stage same kept b will =
       let c = g.free node turn in
@@ -224,7 +226,7 @@ module _ (processes : Processes) (past : List SourceEvent) (old new : Judge) (no
       passed processes past (Issue node number) old new node number r n (with_made old.tables node r) old.cells
       (holds old.layout.now old.cells) (issue_passed r is)
       (λ f c. (g processes past (Issue node number) old new node number r n).issued node number r f (sym n.next) is c)
-      (λ place. refl) (λ place h. h) b will
+      (λ place. refl) (λ place. refl) b will
 
   pub syncs : {E : Type 0} (result : Result Bool E) (values : List Value) → is_sync r ≡ true → split_over old.tables node ≡ true
       → values ≡ landing (row_at old.tables node)
@@ -249,7 +251,7 @@ module _ (processes : Processes) (past : List SourceEvent) (old new : Judge) (no
       (reaches processes past (Arrive node number stores) old new n.reached (with_arrival old.tables node r stores) old.cells
       (holds old.layout.now old.cells) n.reached.fronts b
       ((g processes past (Arrive node number stores) old new node number r n).arrived node number stores r (sym n.next) is)
-      (λ place. refl) (λ place h. h) (subst (λ all. AllAt all.runners.items n.reached.fronts) (sym same) n.reached.all))
+      (λ place. refl) (λ place. refl) (subst (λ all. AllAt all.runners.items n.reached.fronts) (sym same) n.reached.all))
 
 pub occurs : (processes : Processes) (past : List SourceEvent) (old new : Judge) (reached : Reached processes past old)
     (node number cell : ℕ) (wrote : Bool) (place : Place) (value : Value) (cells : CellBook)
@@ -263,7 +265,7 @@ occurs processes past old new reached node number cell wrote place value cells e
     (shows_after wrote (holds old.layout.now old.cells) place value) reached.fronts b
     ((goes_on processes past old.tables (holds old.layout.now old.cells) reached.fronts reached.stage).occurred node number cell wrote place value e)
     (λ other. ap (λ c. holds old.layout.now c other) is ∙ shown wrote other)
-    (λ other h. subst (λ c. IsSome (cell_in c.known other)) (sym is) (kept wrote other h))
+    (λ other. ap (λ c. is_some (cell_in c.known other)) is ∙ kept wrote other)
     (subst (λ all. AllAt all.runners.items reached.fronts) (sym same) reached.all))
   where
     shown : (w : Bool) (other : Place) → holds old.layout.now (if w then with_cell old.cells place value else old.cells) other
@@ -271,7 +273,7 @@ occurs processes past old new reached node number cell wrote place value cells e
     shown true other = holds_written old.layout.now old.cells place value other
     shown false other = refl
 
-    kept : (w : Bool) (other : Place) → IsSome (cell_in old.cells.known other)
-        → IsSome (cell_in (if w then with_cell old.cells place value else old.cells).known other)
-    kept true other h = placed_written old.cells place value other h
-    kept false other h = h
+    kept : (w : Bool) (other : Place)
+        → is_some (cell_in (if w then with_cell old.cells place value else old.cells).known other) ≡ is_some (cell_in old.cells.known other)
+    kept true other = placed_written old.cells place value other
+    kept false other = refl

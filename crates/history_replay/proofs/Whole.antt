@@ -1,6 +1,6 @@
 -- What a judge tells at the end of a history.
 use Rattle.std.proofs.Common.{◌≡◌, ℕ, zero, suc, ◌+◌, ◌<◌, ◌≤◌, List, [], ◌∷◌, ◌++◌, length, map, reverse, take, drop, Option, Some, None, Bool, true, false, refl, sym, ap, ◌∙◌, subst, arith, slice_get, get_or, add-one}
-use Rattle.std.specs.Prelude.{IsSome}
+use Rattle.std.specs.Prelude.{IsSome, is_some}
 use Rattle.std.specs.Option.{option_and_then, option_map, option_or, unwrap_or}
 use Rattle.std.proofs.Math.Seq.{take-suc}
 use Rattle.std.proofs.lemmas.List.{reverse-append, length-map}
@@ -132,4 +132,6 @@ module _ (program : Program) (budget : ℕ) (history : List SourceEvent) (j : Ju
           ap (λ cells. judging.cell_in cells place) memory ∙ same_cell j.cells.known place
           ∙ known_holds (cell_in j.cells.known place) (stray_value j.cells.strays place) _ (reached.placed place is)
           ∙ ap Some (told.memory place);
+      only = λ place value h. reached.only place
+          (ap is_some (sym (same_cell j.cells.known place) ∙ sym (ap (λ cells. judging.cell_in cells place) memory) ∙ h));
     }

@@ -18,8 +18,9 @@ pub record Reached (processes : Processes) (past : List SourceEvent) (j : Judge)
   pub many : length j.nodes.runners.items ≡ processes.nodes
   pub counted : processes.nodes ≡ j.layout.now.nodes
   pub all : AllAt j.nodes.runners.items fronts
-  -- each place of the layout is known
+  -- the places of the layout are known, and no others
   pub placed : (place : Place) → IsPlace j.layout.now place → IsSome (cell_in j.cells.known place)
+  pub only : (place : Place) → IsSome (cell_in j.cells.known place) → IsPlace j.layout.now place
 
 -- so it does, and this is the node's next request
 pub record NextAt (processes : Processes) (past : List SourceEvent) (node number : ℕ) (j : Judge) (o : Option Request) : Type 0 where

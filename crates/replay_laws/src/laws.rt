@@ -7,7 +7,7 @@ pub fn books_answer()
     ensures { BooksAnswer }
 {}
 
-/// What is kept goes on with each event.
+/// What is kept goes on with each event that may come next.
 pub fn books_go_on()
     ensures { BooksGoOn }
 {}

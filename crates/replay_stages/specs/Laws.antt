@@ -1,4 +1,4 @@
--- A stage goes on with each event that is allowed after it, and no legal and complete history with one that is not.
+-- A stage goes on with each event that may come next and whose answer fits, and no legal and complete history with any other.
 use Rattle.std.specs.Prelude.{◌≡◌, ℕ, ◌<◌, List, [], ◌∷◌, ◌++◌, Option, Some, None, Bool, true, false, ◌==◌, ◌&&◌, if◌then◌else◌}
 use Rattle.std.specs.Option.{option_map_or}
 use Rattle.resumption.specs.Resumption.{next_event}

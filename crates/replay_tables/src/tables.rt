@@ -196,8 +196,8 @@ impl Tables {
         row.end(end);
     }
 
-    /// Whether each node has ended and all parts of its transfers have occurred, and no node has ended as waiting
-    /// where a node that has ended otherwise arrived as often.
+    /// Whether each node has ended and all parts of its transfers have occurred, and a node has ended as waiting only
+    /// where some node has ended otherwise and arrived less often.
     pub fn is_complete(&self) -> bool
         ensures { result ≡ is_complete_in self.now }
     {

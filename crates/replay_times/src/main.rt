@@ -153,7 +153,7 @@ fn act(action: Action, arguments: Items<CoreExpr>) -> CoreStmt {
     }
 }
 
-/// `s[MYPROC] :- x; sync(); s[MYPROC]; barrier();`
+/// `s[MYPROC] := x; sync(); s[MYPROC]; barrier();`
 fn body(alloc: Global) -> Result<CoreStmt, AllocError> {
     let mut all = Items::new(alloc);
     let put = two(alloc, cell(alloc)?, round(alloc))?;

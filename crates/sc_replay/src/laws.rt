@@ -9,7 +9,7 @@ pub fn courses_go_on()
     ensures { CoursesGoOn }
 {}
 
-/// A list of events is judged in one way.
+/// Whether a list of events is a history is judged in one way.
 pub fn judged_in_one_way()
     ensures { JudgesInOneWay }
 {}

@@ -1,4 +1,4 @@
-//! Histories of small sources by hand: whole ones, and for each condition one that it alone refuses.
+//! Histories of small sources by hand: whole ones, and beginnings with events that the conditions refuse.
 
 mod histories;
 mod sources;
@@ -181,7 +181,7 @@ fn three_events_on_one_node(rt: HostRuntime) -> Result<(), Fail> {
     Ok(())
 }
 
-/// A beginning of the history of so many events, all of which are taken, and an event that one condition alone refuses.
+/// A beginning of the history of so many events, all of which are taken, and an event that is refused there.
 type Row = (usize, SourceEvent);
 
 /// So it is with each row, for the source.
@@ -213,7 +213,9 @@ fn requests_are_made_in_their_order(rt: HostRuntime) -> Result<(), Fail> {
     ];
     refuses_each(&rt, alloc, &EXCHANGE, EXCHANGED, &rows)?;
     // a blocking copy is not over
-    refuses(&rt, alloc, &COPYING, &COPIED[..6], issue(0, 2))
+    refuses(&rt, alloc, &COPYING, &COPIED[..6], issue(0, 2))?;
+    // the barrier that the node met is not released
+    refuses(&rt, alloc, &MEETING, &MEET[..2], arrive(0, 1, false))
 }
 
 #[test]
@@ -247,8 +249,12 @@ fn parts_occur_once_and_where_they_belong(rt: HostRuntime) -> Result<(), Fail> {
         (4, effect(0, 0, 0, true, S1, Value::Int(5))),
     ];
     refuses_each(&rt, alloc, &EXCHANGE, EXCHANGED, &rows)?;
-    // a copy writes a cell when it has read it, and what it read
+    // a copy writes a cell when it has read it, and what it read, has no third cell, and reads each once
+    let third = Place { offset: 2, ..S0 };
     let rows = [
+        (3, effect(0, 1, 2, false, third, Value::Int(0))),
+        (5, effect(0, 1, 0, false, S0, Value::Int(3))),
+        (5, effect(0, 1, 0, true, S3, Value::Int(3))),
         (3, effect(0, 1, 0, true, S1, Value::Int(0))),
         (3, effect(0, 1, 1, false, S0, Value::Int(3))),
         (5, effect(0, 1, 0, true, S1, Value::Int(0))),
@@ -268,6 +274,8 @@ fn syncs_and_releases_wait(rt: HostRuntime) -> Result<(), Fail> {
     refuses_each(&rt, alloc, &EXCHANGE, EXCHANGED, &rows)?;
     let rows = [(9, sync(0, 3)), (14, SourceEvent::Release { number: 1 })];
     refuses_each(&rt, alloc, &COPYING, COPIED, &rows)?;
+    // a put alone is open
+    refuses(&rt, alloc, &MISLANDING, &[issue(0, 0)], sync(0, 1))?;
     // a node has not arrived, or has given up
     let rows = [
         (1, SourceEvent::Release { number: 1 }),
@@ -283,6 +291,9 @@ fn nodes_end_once_and_as_they_do(rt: HostRuntime) -> Result<(), Fail> {
     refuses_each(&rt, alloc, &EXCHANGE, EXCHANGED, &rows)?;
     let rows = [(1, over(2, End::Waiting)), (3, over(0, End::Waiting))];
     refuses_each(&rt, alloc, &MEETING, MEET, &rows)?;
+    // before the release, and as waiting behind it
+    let rows = [(2, over(0, End::Ended)), (4, over(0, End::Waiting))];
+    refuses_each(&rt, alloc, &LATE_STORE, STORED_LATE, &rows)?;
     let rows = [(0, over(1, End::Ended)), (0, over(0, End::Waiting))];
     refuses_each(&rt, alloc, &FORSAKING, &[], &rows)?;
     refuses(&rt, alloc, &PRINTING, PRINTED, over(0, End::Ended))
