@@ -13,8 +13,8 @@ use Rattle.alias_conflicts.specs.Pairs.{IsMarked, IsRowSet, IsTable, AreTables, 
 
 -- ---- one row
 
-pub row_none : (row : ℕ) (sites : List Site) (R : ℕ → Site → Type 0) (bits : Bits) → IsRowSet row 0 sites R bits bits
-row_none row sites R bits r c = (λ s. inl s, λ s. ⊎_elim (λ i. i) (λ w. (let v = w.1 in let none = v.1 in absurd (omega arith))) s)
+pub row_none : (at : ℕ) (sites : List Site) (R : ℕ → Site → Type 0) (bits : Bits) → IsRowSet at 0 sites R bits bits
+row_none at sites R bits r c = (λ s. inl s, λ s. ⊎_elim (λ i. i) (λ w. (let v = w.1 in let none = v.1 in absurd (omega arith))) s)
 
 same_item : (sites : List Site) (i j : ℕ) (t u : Site) → i ≡ j → slice_get sites i ≡ Some t → slice_get sites j ≡ Some u → t ≡ u
 same_item sites i j t u e f g = let h : slice_get sites j ≡ Some t = subst (λ k. slice_get sites k ≡ Some t) e f in cc

@@ -1,5 +1,5 @@
--- The conflicts of a flow's sites as rows of bits, where the phases say which sites two nodes may stand at between the same
--- two releases.
+-- The conflicts of a flow's sites as rows of bits, where the phases say which sites two nodes may stand at between the
+-- same two releases.
 use Rattle.std.specs.Prelude.{ℕ, ◌+◌, length}
 use Rattle.sc_layout.specs.Layout.{Arrangement}
 use Rattle.site_graph.specs.Bits.{Bits, IsSet, IsOf}

@@ -24,7 +24,8 @@ pub record IsMarked (row column : ℕ) (holds : Bool) (old new : Bits) : Type 0 
 -- one row has grown by the conflicts of its site with the first sites, as many as `end`
 abbrev pub IsRowSet : (row end : ℕ) → List Site → (ℕ → Site → Type 0) → (old new : Bits) → Type 0
 IsRowSet row end sites R old new =
-    (r c : ℕ) → IsSet new r c ↔ (IsSet old r c ⊎ ((r ≡ row) × ((before : ℕ) × (before < end) × (c ≡ before + 1)
+    (r c : ℕ) → IsSet new r c
+    ↔ (IsSet old r c ⊎ ((r ≡ row) × ((before : ℕ) × (before < end) × (c ≡ before + 1)
     × ((t : Site) × (slice_get sites before ≡ Some t) × R c t))))
 
 pub record AreRowsUpTo
@@ -34,13 +35,15 @@ pub record AreRowsUpTo
   pub cross_columns : new_cross.columns ≡ old_cross.columns
   pub own_rows : new_own.rows ≡ old_own.rows
   pub own_columns : new_own.columns ≡ old_own.columns
-  pub cross_is : IsRowSet row end graph.sites (λ c t. ShareAcross layout graph site t × IsSet meets row c) old_cross new_cross
+  pub cross_is : IsRowSet row end graph.sites (λ c t. ShareAcross layout graph site t × IsSet meets row c)
+      old_cross new_cross
   pub own_is : IsRowSet row end graph.sites (λ c t. ShareOwn layout graph site t) old_own new_own
 
 -- the tables of the first sites, as many as `end`
 abbrev pub IsTable : (sites : List Site) (end : ℕ) → (ℕ → ℕ → Site → Site → Type 0) → Bits → Type 0
 IsTable sites end R bits =
-    (r c : ℕ) → IsSet bits r c ↔ ((row before : ℕ) × (row < end) × (r ≡ row + 1) × (before < length sites) × (c ≡ before + 1)
+    (r c : ℕ) → IsSet bits r c
+    ↔ ((row before : ℕ) × (row < end) × (r ≡ row + 1) × (before < length sites) × (c ≡ before + 1)
     × ((s t : Site) × (slice_get sites row ≡ Some s) × (slice_get sites before ≡ Some t) × R r c s t))
 
 pub record AreTables (layout : Arrangement) (graph : Graph) (meets : Bits) (end : ℕ) (cross own : Bits) : Type 0 where

@@ -49,18 +49,21 @@ pub record IsRegion (layout : Arrangement) (region : Region) : Type 0 where
 -- the indices are those that the form allows, as far as 64 bits go
 abbrev pub AreIndices : (nodes node : ℕ) → IndexForm → Option Indices → Type 0
 AreIndices nodes node form indices =
-    (index : ℕ) → index < 2 ^ 64 → AllowsIndex form nodes node index ↔ IsSomeAnd indices (λ i. HasIndex nodes i index)
+    (index : ℕ) → index < 2 ^ 64 → AllowsIndex form nodes node index
+    ↔ IsSomeAnd indices (λ i. HasIndex nodes i index)
 
 -- the region's cells are those that the form allows on the node
 abbrev pub IsRegionOf : Arrangement → Graph → Form → ℕ → Option Region → Type 0
 IsRegionOf layout graph form node region =
     (cell : Place) →
-    Allows layout graph form node cell ↔ IsSomeAnd region (λ r. (index : ℕ) × IsIn layout graph.exposed r cell index)
+    Allows layout graph form node cell
+    ↔ IsSomeAnd region (λ r. (index : ℕ) × IsIn layout graph.exposed r cell index)
 
 -- the index is the value, where 64 bits have it
 abbrev pub IsOnly : ℤ → Option Indices → Type 0
 IsOnly value indices =
-    (nodes index : ℕ) → index < 2 ^ 64 → (pos index ≡ value) ↔ IsSomeAnd indices (λ i. HasIndex nodes i index)
+    (nodes index : ℕ) → index < 2 ^ 64 → (pos index ≡ value)
+    ↔ IsSomeAnd indices (λ i. HasIndex nodes i index)
 
 -- the same, where there may be no form
 abbrev pub IsRegionAt : Arrangement → Graph → Option Form → ℕ → Option Region → Type 0
@@ -72,7 +75,8 @@ IsRegionAt layout graph form node region =
 -- the indices are those that both have
 abbrev pub AreCommon : ℕ → Indices → Indices → Option Indices → Type 0
 AreCommon nodes a b both =
-    (index : ℕ) → (HasIndex nodes a index × HasIndex nodes b index) ↔ IsSomeAnd both (λ i. HasIndex nodes i index)
+    (index : ℕ) → (HasIndex nodes a index × HasIndex nodes b index)
+    ↔ IsSomeAnd both (λ i. HasIndex nodes i index)
 
 -- some cell of the object is on the node, where one is given, and has one of the indices
 abbrev pub HasCell : Arrangement → (object : ℕ) → Option ℕ → Indices → Type 0
@@ -99,4 +103,5 @@ Overlap layout exposed a b =
 -- some cell is one that both forms allow, the first on one node and the second on another or the same
 abbrev pub FormsShare : Arrangement → Graph → Option Form → ℕ → Option Form → ℕ → Type 0
 FormsShare layout graph a p b q =
-    (cell : Place) × IsSomeAnd a (λ f. Allows layout graph f p cell) × IsSomeAnd b (λ f. Allows layout graph f q cell)
+    (cell : Place) × IsSomeAnd a (λ f. Allows layout graph f p cell)
+    × IsSomeAnd b (λ f. Allows layout graph f q cell)

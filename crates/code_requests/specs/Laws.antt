@@ -28,7 +28,7 @@ use Rattle.forgotten_marks.specs.Played.{without_points}
 use Rattle.source_order.specs.Steps.{own_requests}
 use Rattle.source_order.specs.Whole.{IsRun}
 use Rattle.source_order.specs.Made.{IsMade}
-use Rattle.source_order.specs.Answering.{AllWaitForAnswers}
+use Rattle.sc_meaning.specs.Answering.{AllWaitForAnswers}
 use Rattle.source_order.specs.Needs.{NoCycle}
 use Rattle.source_order.specs.Law.{IsOrdered}
 

@@ -70,7 +70,8 @@ pub record IsAnswered (code : Code) (layout : Arrangement) (old : Node) (asked :
   pub own : new.node.own ≡ old.own
   pub budget : new.node.budget ≡ old.budget
   pub counters : HasCounters code new.node
-  pub answers : plain_answers new.node.answers.items ≡ plain_answers old.answers.items ++ plain_answers (answer ∷ [])
+  pub answers : plain_answers new.node.answers.items ≡ plain_answers old.answers.items
+      ++ plain_answers (answer ∷ [])
   pub ask : Asked
   pub asks : new.asks ≡ Some ask
   pub at : IsAt code layout new.node (asked ++ ask_of old.standing)

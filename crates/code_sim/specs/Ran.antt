@@ -33,7 +33,8 @@ pub record IsRunBy (machine : Machine) (picks : ℕ → ℕ) (run : Run) : Type 
   pub memory : Holds run.memory (λ place. held machine.start place (effects machine.start (reverse run.journal)))
 
 -- from some number of instructions on, the run is that of the code by these picks
-pub record IsCodeRun (code : Code) (layout : Arrangement) (budget : ℕ) (picks : ℕ → ℕ) (run : Run) : Type 0 where
+pub record IsCodeRun (code : Code) (layout : Arrangement) (budget : ℕ) (picks : ℕ → ℕ)
+    (run : Run) : Type 0 where
   pub many : ℕ
   pub from_there : (more : ℕ) → many ≤ more → IsRunBy (machine_of layout code budget more) picks run
   pub laid : run.memory.layout ≡ layout

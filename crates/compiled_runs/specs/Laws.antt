@@ -1,5 +1,5 @@
--- Runs of compiled sources: each has its source order, after Shasha and Snir (1988). Nothing is asked but that the parts
--- are those of a compiled source, and that the journal is one of its code.
+-- Runs of compiled sources: each has its source order, after Shasha and Snir (1988). Nothing is asked but that the
+-- parts are those of a compiled source, and that the journal is one of its code.
 use Rattle.std.specs.Prelude.{ℕ, List}
 use Rattle.sc_isa.specs.declared.journal.Entry.{Entry}
 use Rattle.splitc_compile.specs.Compiled.{Parts, AreParts}

@@ -22,12 +22,15 @@ use Rattle.core_machine.specs.Jumps.{at_work, halted, faulted, unless_awaited}
 
 -- ---- steps
 
-abbrev pub entered_by : Setting → Option Function → List Value → List Todo → List Value → Memory → ℕ → State
+abbrev pub entered_by : Setting → Option Function → List Value → List Todo → List Value →
+    Memory → ℕ → State
 entered_by here None arguments ts vs m left = halted Breaks ts vs m left
 entered_by here (Some f) arguments ts vs m left =
-    at_work (does_ f.body ∷ closes (zero_of f.result) f.line ∷ ts) vs (pushed (entered arguments (length f.others)) m) left
+    at_work (does_ f.body ∷ closes (zero_of f.result) f.line ∷ ts) vs
+    (pushed (entered arguments (length f.others)) m) left
 
-abbrev pub called : Setting → (function : ℕ) → List Value → (line : ℕ) → List Todo → List Value → Memory → ℕ → State
+abbrev pub called : Setting → (function : ℕ) → List Value → (line : ℕ) → List Todo → List Value →
+    Memory → ℕ → State
 called here f arguments line ts vs m zero = halted (Finishes Cut) ts vs m zero
 called here f arguments line ts vs m (suc left) =
     if nat_lt (length m.frames) LIMITS.frames
@@ -38,11 +41,13 @@ abbrev pub after_step : Setting → Made → (line : ℕ) → List Todo → List
 after_step here (makes v) line ts vs m left = at_work ts (v ∷ vs) m left
 after_step here (faults kind) line ts vs m left = faulted kind line ts vs m left
 after_step here stuck line ts vs m left = halted Breaks ts vs m left
-after_step here (uses x) line ts vs m left = unless_awaited line (slot m x) (λ v. at_work ts (v ∷ vs) m left) ts vs m left
+after_step here (uses x) line ts vs m left =
+    unless_awaited line (slot m x) (λ v. at_work ts (v ∷ vs) m left) ts vs m left
 after_step here (sets x v) line ts vs m left =
     unless_awaited line (slot m x) (λ old. at_work ts (v ∷ vs) (with_slot m x (has v)) left) ts vs m left
 after_step here (reads place) line ts vs m left = at_work (reads_from place line ∷ ts) vs m left
-after_step here (writes place v) line ts vs m left = at_work (requests (request.Write place v line) ∷ ts) (v ∷ vs) m left
+after_step here (writes place v) line ts vs m left =
+    at_work (requests (request.Write place v line) ∷ ts) (v ∷ vs) m left
 after_step here (calls f arguments) line ts vs m left = called here f arguments line ts vs m left
 
 abbrev pub after_action : CopyMode → Done → (line : ℕ) → List Todo → List Value → Memory → ℕ → State
@@ -54,7 +59,8 @@ after_action mode (clears x v) line ts vs m left =
 after_action mode (prints text) line ts vs m left = at_work (says text ∷ ts) vs m left
 after_action mode (fills x place) line ts vs m left = at_work (fills_from x place line ∷ ts) vs m left
 after_action mode (gets x place) line ts vs m left =
-    unless_awaited line (slot m x) (λ old. at_work (requests (request.Get place line) ∷ ts) vs (with_get m x place) left) ts vs m left
+    unless_awaited line (slot m x)
+    (λ old. at_work (requests (request.Get place line) ∷ ts) vs (with_get m x place) left) ts vs m left
 after_action mode (misses x kind) line ts vs m left =
     unless_awaited line (slot m x) (λ old. faulted kind line ts vs m left) ts vs m left
 after_action mode (puts place v) line ts vs m left = at_work (requests (request.Put place v line) ∷ ts) vs m left

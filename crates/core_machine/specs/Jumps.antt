@@ -49,7 +49,8 @@ chosen (Some true) on off amiss = on
 chosen (Some false) on off amiss = off
 
 -- where the local's value is used
-abbrev pub unless_awaited : (line : ℕ) → Slot → (Value → State) → List Todo → List Value → Memory → ℕ → State
+abbrev pub unless_awaited : (line : ℕ) → Slot → (Value → State) → List Todo → List Value →
+    Memory → ℕ → State
 unless_awaited line (has v) go ts vs m left = go v
 unless_awaited line awaits go ts vs m left = faulted PendingUse line ts vs m left
 

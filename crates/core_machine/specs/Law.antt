@@ -15,4 +15,5 @@ MachineFollowsMeaning =
 
 -- and of no state is it told in two ways what it does
 abbrev pub RunsInOneWay : Type 0
-RunsInOneWay = (here : Setting) (s : State) (d other : SourceDoing) → Runs here s d → Runs here s other → d ≡ other
+RunsInOneWay = (here : Setting) (s : State) (d other : SourceDoing) → Runs here s d →
+    Runs here s other → d ≡ other

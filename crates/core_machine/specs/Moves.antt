@@ -28,7 +28,8 @@ abbrev pub evaluated : Setting → Core → List Todo → List Value → Memory 
 evaluated here (constant c) ts vs m left = at_work ts (constant_of here c ∷ vs) m left
 evaluated here (step operation arguments line) ts vs m left =
     at_work (takes_each arguments ∷ performs operation (count arguments) line ∷ ts) vs m left
-evaluated here (choice of_pointer test on off) ts vs m left = at_work (evaluates test ∷ decides of_pointer on off ∷ ts) vs m left
+evaluated here (choice of_pointer test on off) ts vs m left =
+    at_work (evaluates test ∷ decides of_pointer on off ∷ ts) vs m left
 evaluated here (update pointer operation right back line) ts vs m left =
     at_work (evaluates pointer ∷ doubles ∷ performs Read 1 line ∷ evaluates right ∷ performs operation 2 line
     ∷ performs Write 2 line ∷ taken_back back line ts) vs m left
@@ -44,7 +45,8 @@ done continue ts vs m left = or_stuck (left_by_continue ts) vs m left
 done (then_ a b) ts vs m left = at_work (does_ a ∷ does_ b ∷ ts) vs m left
 done (act action arguments line) ts vs m left =
     at_work (takes_each arguments ∷ enacts action (count arguments) line ∷ ts) vs m left
-done (choose of_pointer test on off) ts vs m left = at_work (evaluates test ∷ chooses of_pointer on off ∷ ts) vs m left
+done (choose of_pointer test on off) ts vs m left =
+    at_work (evaluates test ∷ chooses of_pointer on off ∷ ts) vs m left
 done (loop mine before body after) ts vs m left = at_work (rounds_of before body after ∷ ts) vs m left
 done (return e line) ts vs m left = at_work (evaluates e ∷ returns line ∷ ts) vs m left
 
@@ -54,31 +56,40 @@ abbrev pub moved : Setting → Todo → List Todo → List Value → Memory → 
 moved here (evaluates e) ts vs m left = Goes (evaluated here e ts vs m left)
 moved here (takes_each arguments) ts vs m left = Goes (at_work (each_taken arguments ts) vs m left)
 moved here (performs operation n line) ts vs m left =
-    Goes (by_values n vs (λ xs vs. after_step here (made_of here.layout here.node operation xs) line ts vs m left) (halted Breaks ts vs m left))
+    Goes (by_values n vs (λ xs vs. after_step here (made_of here.layout here.node operation xs) line ts vs m left)
+    (halted Breaks ts vs m left))
 moved here (decides of_pointer on off) ts vs m left =
     Goes (by_value vs (λ v vs. chosen (truth_of here of_pointer v) (at_work (evaluates on ∷ ts) vs m left)
     (at_work (evaluates off ∷ ts) vs m left) (halted Breaks ts vs m left)) (halted Breaks ts vs m left))
-moved here doubles ts vs m left = Goes (by_value vs (λ v vs. at_work ts (v ∷ v ∷ vs) m left) (halted Breaks ts vs m left))
+moved here doubles ts vs m left =
+    Goes (by_value vs (λ v vs. at_work ts (v ∷ v ∷ vs) m left) (halted Breaks ts vs m left))
 moved here (gains v) ts vs m left = Goes (at_work ts (v ∷ vs) m left)
 moved here (does_ s) ts vs m left = Goes (done s ts vs m left)
 moved here (enacts action n line) ts vs m left =
-    Goes (by_values n vs (λ xs vs. after_action (mode_of action) (done_of here.layout here.program.texts action xs) line ts vs m left)
+    Goes (by_values n vs
+    (λ xs vs. after_action (mode_of action) (done_of here.layout here.program.texts action xs) line ts vs m left)
     (halted Breaks ts vs m left))
 moved here (chooses of_pointer on off) ts vs m left =
     Goes (by_value vs (λ v vs. chosen (truth_of here of_pointer v) (at_work (does_ on ∷ ts) vs m left)
     (at_work (does_ off ∷ ts) vs m left) (halted Breaks ts vs m left)) (halted Breaks ts vs m left))
-moved here (rounds_of before body after) ts vs m left = Goes (at_work (does_ before ∷ turn_of before body after ∷ ts) vs m left)
+moved here (rounds_of before body after) ts vs m left =
+    Goes (at_work (does_ before ∷ turn_of before body after ∷ ts) vs m left)
 moved here (turn_of before body after) ts vs m left = Goes (turned before body after ts vs m left)
-moved here (after_of before body after) ts vs m left = Goes (at_work (does_ after ∷ rounds_of before body after ∷ ts) vs m left)
+moved here (after_of before body after) ts vs m left =
+    Goes (at_work (does_ after ∷ rounds_of before body after ∷ ts) vs m left)
 moved here (returns line) ts vs m left = Goes (returned line (left_by_return ts) ts vs m left)
-moved here (closes at_end line) ts vs m left = Goes (returned line (Some ts) (closes at_end line ∷ ts) (constant_of here at_end ∷ vs) m left)
+moved here (closes at_end line) ts vs m left =
+    Goes (returned line (Some ts) (closes at_end line ∷ ts) (constant_of here at_end ∷ vs) m left)
 moved here (reads_from place line) ts vs m left =
-    Asks (request.Read place line) (fits_read here.layout place) (λ answer. at_work ts (shown_or_zero answer ∷ vs) m left)
+    Asks (request.Read place line) (fits_read here.layout place)
+    (λ answer. at_work ts (shown_or_zero answer ∷ vs) m left)
 moved here (fills_from x place line) ts vs m left =
     Asks (request.Read place line) (fits_read here.layout place)
-    (λ answer. unless_awaited line (slot m x) (λ old. at_work ts vs (with_slot m x (has (shown_or_zero answer))) left) ts vs m left)
+    (λ answer. unless_awaited line (slot m x)
+    (λ old. at_work ts vs (with_slot m x (has (shown_or_zero answer))) left) ts vs m left)
 moved here (syncs line) ts vs m left =
-    Asks (request.Sync line) (fits_sync here.layout (places m)) (λ answer. at_work ts vs (synced (landed_or_none answer) m) left)
+    Asks (request.Sync line) (fits_sync here.layout (places m))
+    (λ answer. at_work ts vs (synced (landed_or_none answer) m) left)
 moved here (meets_at stores line) ts vs m left =
     Asks (barrier_request stores line) fits_barrier (λ answer. passed answer ts vs m left)
 moved here (requests request) ts vs m left = Makes request (at_work ts vs m left)

@@ -10,10 +10,12 @@ use Rattle.core_machine.specs.Moves.{move_of}
 module _ (here : Setting) where
   pub data Runs : State → SourceDoing → Type 0 where
     goes : {s next : State} {d : SourceDoing} → move_of here s ≡ Goes next → Runs next d → Runs s d
-    asks : {s : State} {request : Request} {fits : Answer → Bool} {next : Answer → State} {go : Answer → SourceDoing}
+    asks : {s : State} {request : Request} {fits : Answer → Bool} {next : Answer → State}
+        {go : Answer → SourceDoing}
         → move_of here s ≡ Asks request fits next → ((answer : Answer) → Runs (next answer) (go answer))
         → Runs s (doing.Asks request fits go)
-    makes : {s next : State} {request : Request} {d : SourceDoing} → move_of here s ≡ Makes request next → Runs next d
+    makes : {s next : State} {request : Request} {d : SourceDoing} → move_of here s ≡ Makes request next
+        → Runs next d
         → Runs s (doing.Makes request d)
     says : {s next : State} {text : List ℕ} {d : SourceDoing} → move_of here s ≡ Says text next → Runs next d
         → Runs s (doing.Says text d)

@@ -1,5 +1,6 @@
--- What a node that walks its core tree has left to do, in the form of the machines of Landin, "The mechanical evaluation
--- of expressions" (1964): a list of pending work, the next first, and the values that it made, the last first.
+-- What a node that walks its core tree has left to do, in the form of the machines of Landin, "The mechanical
+-- evaluation of expressions" (1964): a list of pending work, the next first, and the values that it made, the last
+-- first.
 use Rattle.std.specs.Prelude.{ℕ, Bool, List}
 use Rattle.sc_base.specs.declared.value.Place.{Place}
 use Rattle.sc_base.specs.declared.value.Value.{Value}

@@ -27,7 +27,8 @@ abbrev pub Stands : Runner → SourceDoing → Type 0
 Stands r d = Runs (setting_of r) (state_of r) d
 
 -- what is printed with what is said before the next request is the text, and behind that comes the rest
-pub record Towards (text : List ℕ) (rest : SourceDoing) (here : Setting) (s : State) (printed : List ℕ) : Type 0 where
+pub record Towards (text : List ℕ) (rest : SourceDoing) (here : Setting) (s : State)
+    (printed : List ℕ) : Type 0 where
   pub doing : SourceDoing
   pub runs : Runs here s doing
   pub said : printed ++ next_text doing ≡ text

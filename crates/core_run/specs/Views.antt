@@ -107,7 +107,8 @@ abbrev pub by : Runner → (List Todo → List Value → Memory → ℕ → Stat
 by r f = f (all_of r.tasks) r.values r.memory r.left
 
 -- by the last value as a test, one piece of work or another
-abbrev pub branched : Setting → (of_pointer : Bool) → (on off : Todo) → List Todo → List Value → Memory → ℕ → State
+abbrev pub branched : Setting → (of_pointer : Bool) → (on off : Todo) → List Todo → List Value →
+    Memory → ℕ → State
 branched here of_pointer on off ts vs m left =
     by_value vs (λ v vs. chosen (truth_of here of_pointer v)
     (at_work (on ∷ ts) vs m left) (at_work (off ∷ ts) vs m left) (halted Breaks ts vs m left))

@@ -18,8 +18,8 @@ use Rattle.delay_sets.specs.Backing.{AreSquare, AreLinks, BackBy, AreBackPaths, 
 abbrev pub RowOf : (R : ℕ → ℕ → Type 0) → (row count : ℕ) → Bits → Bits → Type 0
 RowOf R row count old new = HasPairs old (λ r c. IsSet old r c ⊎ ((r ≡ row) × (c < count) × R r c)) new
 
-pub row_none : (R : ℕ → ℕ → Type 0) (row : ℕ) (old : Bits) → RowOf R row 0 old old
-row_none R row old = (refl, refl, λ r c. (inl, λ s. ⊎_elim (λ o. o) (λ (e, l, h). absurd (omega (arith, l))) s))
+pub row_none : (R : ℕ → ℕ → Type 0) (at : ℕ) (old : Bits) → RowOf R at 0 old old
+row_none R at old = (refl, refl, λ r c. (inl, λ s. ⊎_elim (λ o. o) (λ (e, l, h). absurd (omega (arith, l))) s))
 
 pub row_set : (R : ℕ → ℕ → Type 0) (row column : ℕ) (old now new : Bits) → R row column → RowOf R row column old now → IsWith row column now new
     → RowOf R row (column + 1) old new

@@ -10,7 +10,8 @@ abbrev pub AreSquare : (count : ℕ) → Bits → Type 0
 AreSquare count bits = (bits.rows ≡ count) × (bits.columns ≡ count)
 
 abbrev pub AreLinks : Graph → (cross own : Bits) → Bits → Type 0
-AreLinks graph cross own links = AreSquare (length graph.sites + 1) links × ((a b : ℕ) → IsSet links a b ↔ Link graph cross own a b)
+AreLinks graph cross own links = AreSquare (length graph.sites + 1) links
+    × ((a b : ℕ) → IsSet links a b ↔ Link graph cross own a b)
 
 -- the last has in the row the links to the first so many sites too
 abbrev pub IsWithLinks : Graph → (cross own : Bits) → (site count : ℕ) → Bits → Bits → Type 0

@@ -20,7 +20,8 @@ AreStops graph bits = IsOf 1 (length graph.points) (λ r t. is_stop (kind_at gra
 -- from the point of the first site a way leads to that of the second, with neither barrier nor access on it
 abbrev pub IsNextSite : Graph → (a b : ℕ) → Type 0
 IsNextSite graph a b =
-    (t u : ℕ) × IsAt graph a t × IsAt graph b u × LeadsBy (Goes graph) (λ z. is_stop (kind_at graph z) ≡ false) t u
+    (t u : ℕ) × IsAt graph a t × IsAt graph b u
+    × LeadsBy (Goes graph) (λ z. is_stop (kind_at graph z) ≡ false) t u
 
 -- with no barrier on it
 abbrev pub IsClearTo : Graph → (a b : ℕ) → Type 0

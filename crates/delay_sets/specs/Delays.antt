@@ -1,5 +1,5 @@
--- Delays: which accesses of one node must not overlap, after Shasha and Snir (1988) and Krishnamurthy and Yelick (1995).
--- Conflicts are rows of bits over sites.
+-- Delays: which accesses of one node must not overlap, after Shasha and Snir (1988) and Krishnamurthy and Yelick
+-- (1995). Conflicts are rows of bits over sites.
 use Rattle.std.specs.Prelude.{◌≡◌, ◌⊎◌, ◌↔◌, ℕ, ◌+◌, List, [], ◌∷◌, length, Some, false}
 use Rattle.effect_order.specs.Flow.{Delay}
 use Rattle.site_graph.specs.declared.site.Site.{Site}

@@ -11,5 +11,6 @@ AreOfSites graph bits = (a b : ℕ) → IsSet bits a b → IsSiteOf graph a × I
 
 abbrev pub DelaysOfSitesAreOfOrder : Type 0
 DelaysOfSitesAreOfOrder =
-    (graph : Graph) (cross own meets : Bits) (across : ℕ → ℕ → Bool) → AreOfSites graph cross → AreOfSites graph own
+    (graph : Graph) (cross own meets : Bits) (across : ℕ → ℕ → Bool) → AreOfSites graph cross
+    → AreOfSites graph own
     → DelaysAreOfOrder graph cross own (λ a b. across a b ≡ true) meets

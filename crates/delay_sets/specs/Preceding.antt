@@ -7,11 +7,13 @@ use Rattle.delay_sets.specs.Relations.{HasPairs}
 
 -- the barriers in the first row, and nothing in the second
 abbrev pub AreBarriers : Graph → Bits → Type 0
-AreBarriers graph bits = IsOf 2 (length graph.points) (λ r t. (r ≡ 0) × (is_barrier (kind_at graph t) ≡ true)) bits
+AreBarriers graph bits =
+    IsOf 2 (length graph.points) (λ r t. (r ≡ 0) × (is_barrier (kind_at graph t) ≡ true)) bits
 
 -- the syncs among the first points that are set in the first row
 abbrev pub AreSyncsIn : Graph → (reached : Bits) → (count : ℕ) → List ℕ → Type 0
-AreSyncsIn graph reached count syncs = (s : ℕ) → Contains syncs s ↔ ((s < count) × (kind_at graph s ≡ Sync) × IsSet reached 0 s)
+AreSyncsIn graph reached count syncs = (s : ℕ) → Contains syncs s
+    ↔ ((s < count) × (kind_at graph s ≡ Sync) × IsSet reached 0 s)
 
 -- one of the first points that are set in the first row is that of the site
 abbrev pub IsSiteIn : Graph → (over : Bits) → (count number : ℕ) → Type 0
@@ -19,4 +21,5 @@ IsSiteIn graph over count b = (u : ℕ) × (u < count) × IsAt graph b u × IsSe
 
 -- the second has in the row these sites too
 abbrev pub IsWithSites : Graph → (over : Bits) → (row count : ℕ) → Bits → Bits → Type 0
-IsWithSites graph over row count old new = HasPairs old (λ r b. IsSet old r b ⊎ ((r ≡ row) × IsSiteIn graph over count b)) new
+IsWithSites graph over row count old new =
+    HasPairs old (λ r b. IsSet old r b ⊎ ((r ≡ row) × IsSiteIn graph over count b)) new

@@ -5,7 +5,8 @@ use Rattle.site_graph.specs.Bits.{Bits, IsSet, IsOf}
 
 -- of the same sizes, and with these pairs
 abbrev pub HasPairs : Bits → (ℕ → ℕ → Type 0) → Bits → Type 0
-HasPairs old R new = (new.rows ≡ old.rows) × (new.columns ≡ old.columns) × ((r c : ℕ) → IsSet new r c ↔ R r c)
+HasPairs old R new = (new.rows ≡ old.rows) × (new.columns ≡ old.columns)
+    × ((r c : ℕ) → IsSet new r c ↔ R r c)
 
 -- the third has the pairs of the first and of the second
 abbrev pub IsUnion : Bits → Bits → Bits → Type 0
@@ -29,4 +30,5 @@ IsComposed first second new = IsOf first.rows second.columns (Joins first second
 
 -- the fourth has in the row what the first and the second join too
 abbrev pub IsWithRow : (row : ℕ) → Bits → Bits → Bits → Bits → Type 0
-IsWithRow row first second old new = HasPairs old (λ r c. IsSet old r c ⊎ ((r ≡ row) × Joins first second r c)) new
+IsWithRow row first second old new =
+    HasPairs old (λ r c. IsSet old r c ⊎ ((r ≡ row) × Joins first second r c)) new

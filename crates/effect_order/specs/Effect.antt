@@ -24,7 +24,8 @@ same_place a b = (a.object == b.object) && (a.node == b.node) && (a.offset == b.
 abbrev pub same_value : Value → Value → Bool
 same_value (Int a) (Int b) = int_eq a b
 same_value Null Null = true
-same_value (Ptr object node offset) (Ptr object_b node_b offset_b) = (object == object_b) && (node == node_b) && (offset == offset_b)
+same_value (Ptr object node offset) (Ptr object_b node_b offset_b) =
+    (object == object_b) && (node == node_b) && (offset == offset_b)
 same_value _ _ = false
 
 -- what the place holds after the effects: the value last written to it, or what it held at the start

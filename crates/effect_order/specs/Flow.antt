@@ -33,8 +33,8 @@ Path flow a b = LeadsBy flow.Goes (λ z. Unit {0}) a b
 abbrev pub Clear : {S : Type 0} → Flow S → S → S → Type 0
 Clear flow a b = LeadsBy flow.Goes (λ z. flow.is_barrier z ≡ false) a b
 
--- The access of a is over, in the source, before that of b begins: a is blocking and the way to b is clear, or a is split
--- and leads to a sync from which the way to b is clear.
+-- The access of a is over, in the source, before that of b begins: a is blocking and the way to b is clear, or a is
+-- split and leads to a sync from which the way to b is clear.
 abbrev pub Precedes : {S : Type 0} → Flow S → S → S → Type 0
 Precedes {S} flow a b =
     ((flow.is_blocking a ≡ true) × Clear flow a b) ⊎

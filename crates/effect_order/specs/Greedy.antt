@@ -26,7 +26,8 @@ then_rest f (Some p) = p.0 ∷ f p.0 p.1
 -- up to n times the first member left that may be taken after those taken, the newest first, and beside those left
 abbrev pub grow : {X : Type 0} → (List X → List X → X → Bool) → ℕ → List X → List X → List X
 grow may_take zero past left = []
-grow may_take (suc n) past left = then_rest (λ x rest. grow may_take n (x ∷ past) rest) (pick_by (may_take past left) left)
+grow may_take (suc n) past left =
+    then_rest (λ x rest. grow may_take n (x ∷ past) rest) (pick_by (may_take past left) left)
 
 -- the law of histories allows x after those taken, and no item left that is earlier in the run conflicts with it
 abbrev pub may_take : {X : Type 0} →
@@ -34,9 +35,11 @@ abbrev pub may_take : {X : Type 0} →
 may_take does earlier allowed past left x =
     allowed past x && not (is_held (λ a b. items_conflict does a b && earlier a b) x left)
 
--- The source order of all items; where several may be taken, the first of them in the list is. `does` gives the effects of
--- an item, `earlier` says that the first item comes before the second in the run, and `allowed` is the law of histories.
-abbrev pub ordered : {X : Type 0} → (X → List Effect) → (X → X → Bool) → (List X → X → Bool) → List X → List X
+-- The source order of all items; where several may be taken, the first of them in the list is. `does` gives the
+-- effects of an item, `earlier` says that the first item comes before the second in the run, and `allowed` is the law
+-- of histories.
+abbrev pub ordered : {X : Type 0} → (X → List Effect) → (X → X → Bool) → (List X → X → Bool) →
+    List X → List X
 ordered does earlier allowed all = grow (may_take does earlier allowed) (length all) [] all
 
 -- each item is allowed after those before it; past: those before the list, the newest first
@@ -45,7 +48,8 @@ IsAllowed allowed past [] = Unit {0}
 IsAllowed allowed past (x ∷ out) = (allowed past x ≡ true) × IsAllowed allowed (x ∷ past) out
 
 -- by the law of histories, or as an earlier item that conflicts with it, a has to come before b
-abbrev pub comes_before : {X : Type 0} → (X → List Effect) → (X → X → Bool) → (X → X → Bool) → X → X → Bool
+abbrev pub comes_before : {X : Type 0} → (X → List Effect) → (X → X → Bool) → (X → X → Bool) →
+    X → X → Bool
 comes_before does earlier needs a b = needs a b || (items_conflict does a b && earlier a b)
 
 -- the members of left in another order, each of which is taken when none of those left has to come before it
@@ -57,7 +61,8 @@ Reorder {X} before left (x ∷ out) =
 -- each item comes after all members of `all` that have to come before it; past: those before the list, the newest first
 abbrev pub Lawful : {X : Type 0} → (X → X → Bool) → List X → List X → List X → Type 0
 Lawful before all past [] = Unit {0}
-Lawful before all past (x ∷ out) = Each (λ a. before a x ≡ true → In a past) all × Lawful before all (x ∷ past) out
+Lawful before all past (x ∷ out) = Each (λ a. before a x ≡ true → In a past) all
+    × Lawful before all (x ∷ past) out
 
 -- what the source order is: all items, each after what it needs, with the values and the memory of the run
 pub record IsSourced {X : Type 0}
@@ -87,7 +92,8 @@ WereAllowed allowed (x ∷ past) = (allowed past x ≡ true) × WereAllowed allo
 
 -- what holds of those taken and those left while the order grows
 pub record Reached {X : Type 0}
-    (does : X → List Effect) (start : Place → Value) (earlier needs : X → X → Bool) (allowed : List X → X → Bool)
+    (does : X → List Effect) (start : Place → Value) (earlier needs : X → X → Bool)
+    (allowed : List X → X → Bool)
     (all past left : List X) : Type 0 where
   -- each item was taken or is left
   pub cover : Each (λ a. In a past ⊎ In a left) all
@@ -113,7 +119,8 @@ pub record Reached {X : Type 0}
 -- What the law of histories has to be: it allows an item that is left exactly where all that the item needs was taken,
 -- and what the item reads is what the places hold.
 abbrev pub AllowedIs : {X : Type 0} →
-    (X → List Effect) → (Place → Value) → (X → X → Bool) → (X → X → Bool) → (List X → X → Bool) → List X → Type 0
+    (X → List Effect) → (Place → Value) → (X → X → Bool) → (X → X → Bool) →
+    (List X → X → Bool) → List X → Type 0
 AllowedIs {X} does start earlier needs allowed all =
     (past left : List X) (x : X) → Reached does start earlier needs allowed all past left → In x left →
     (allowed past x ≡ true) ↔
@@ -121,7 +128,8 @@ AllowedIs {X} does start earlier needs allowed all =
 
 -- what has to hold of the items for the source order to be what it is to be
 pub record Orderable {X : Type 0}
-    (does : X → List Effect) (start : Place → Value) (earlier needs : X → X → Bool) (allowed : List X → X → Bool)
+    (does : X → List Effect) (start : Place → Value) (earlier needs : X → X → Bool)
+    (allowed : List X → X → Bool)
     (all : List X) : Type 0 where
   -- what has to come before what has no cycle
   pub no_cycle : HasNoCycle (Among (comes_before does earlier needs) all)

@@ -97,10 +97,12 @@ rows =
     own_step 0 0 0 1 0 ∷ part 1 0 0 1 0 1 0 false 0 0 5 ∷ own_step 2 0 1 2 2 ∷
     own_step 3 1 0 1 3 ∷ part 4 1 0 1 3 4 0 false 0 1 6 ∷ own_step 5 1 1 2 5 ∷
     part 6 0 0 1 0 6 0 true 1 1 5 ∷ own_step 7 0 2 3 7 ∷ part 8 1 0 1 3 9 0 true 1 0 6 ∷ own_step 9 1 2 3 10 ∷
-    own_step 10 0 4 5 12 ∷ own_step 11 1 4 5 13 ∷ part 12 1 3 4 11 14 2 true 3 0 4 ∷ part 13 0 3 4 8 15 2 true 3 1 3 ∷
+    own_step 10 0 4 5 12 ∷ own_step 11 1 4 5 13 ∷ part 12 1 3 4 11 14 2 true 3 0 4 ∷
+    part 13 0 3 4 8 15 2 true 3 1 3 ∷
     part 14 1 1 2 5 16 1 true 2 0 2 ∷ part 15 0 1 2 2 17 1 true 2 0 1 ∷ release 16 18 ∷
     part 17 0 5 6 20 21 3 false 3 0 4 ∷ part 18 1 5 6 22 23 3 false 3 1 3 ∷
-    part 19 0 6 7 24 25 4 false 1 0 6 ∷ part 20 1 6 7 26 27 4 false 1 1 5 ∷ end_of 21 0 7 28 ∷ end_of 22 1 7 29 ∷ []
+    part 19 0 6 7 24 25 4 false 1 0 6 ∷ part 20 1 6 7 26 27 4 false 1 1 5 ∷ end_of 21 0 7 28 ∷
+    end_of 22 1 7 29 ∷ []
 
 -- it has an effect
 abbrev pub has_effect : List Effect → Bool

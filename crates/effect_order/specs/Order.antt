@@ -73,7 +73,8 @@ pub record Facts {E S : Type 0} (s : Story E S) : Type 0 where
   -- what blocks is an effect
   pub blocking_effect : (e : E) → s.Member e → s.is_blocking e ≡ true → s.is_effect e ≡ true
   -- an effect blocks where its site does
-  pub blocking_site : (e : E) → s.Member e → s.is_effect e ≡ true → s.is_blocking e ≡ s.flow.is_blocking (s.site e)
+  pub blocking_site : (e : E) → s.Member e → s.is_effect e ≡ true →
+      s.is_blocking e ≡ s.flow.is_blocking (s.site e)
   -- effects of one step have one site
   pub same_site : (e f : E) → s.Member e → s.Member f → s.is_effect e ≡ true → s.is_effect f ≡ true →
       s.node e ≡ s.node f → s.step e ≡ s.step f → s.site e ≡ s.site f
@@ -81,10 +82,12 @@ pub record Facts {E S : Type 0} (s : Story E S) : Type 0 where
   pub clear_blocking : (e f : E) → s.Member e → s.Member f → Later s e f → s.is_effect f ≡ true →
       s.level e ≡ s.level f → Precedes s.flow (s.site e) (s.site f)
   -- an access that is over precedes later ones
-  pub clear_done : (e f : E) → s.Member e → s.Member f → s.Done e f → s.is_effect e ≡ true → s.is_effect f ≡ true →
+  pub clear_done : (e f : E) → s.Member e → s.Member f → s.Done e f → s.is_effect e ≡ true →
+      s.is_effect f ≡ true →
       s.level e ≡ s.level f → Precedes s.flow (s.site e) (s.site f)
   -- conflicts of two nodes within one level are links
-  pub cross : (e f : E) → s.Member e → s.Member f → s.Conflict e f → s.node e ≢ s.node f → s.level e ≡ s.level f →
+  pub cross : (e f : E) → s.Member e → s.Member f → s.Conflict e f → s.node e ≢ s.node f →
+      s.level e ≡ s.level f →
       Link s.flow (s.site e) (s.site f)
   -- the code knows the conflicts of one node
   pub own : (e f : E) → s.Member e → s.Member f → s.Conflict e f → s.node e ≡ s.node f →
@@ -92,5 +95,6 @@ pub record Facts {E S : Type 0} (s : Story E S) : Type 0 where
   -- conflict on one node is mutual
   pub own_back : (a b : S) → s.flow.OwnConflict a b → s.flow.OwnConflict b a
   -- each delay within one level is waited for
-  pub waited : (e f : E) → s.Member e → s.Member f → Later s e f → s.is_effect f ≡ true → s.level e ≡ s.level f →
+  pub waited : (e f : E) → s.Member e → s.Member f → Later s e f → s.is_effect f ≡ true →
+      s.level e ≡ s.level f →
       Delay s.flow (s.site e) (s.site f) → s.time e < s.time f

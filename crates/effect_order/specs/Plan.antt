@@ -11,7 +11,8 @@ abbrev pub First : {S : Type 0} → (S → S → Type 0) → (S → S → Type 0
 First Goes Demand a t = Demand a t × LeadsBy Goes (λ z. Demand a z → ⊥) a t
 
 -- a site that may go one-way, all of whose first demands are barriers
-abbrev pub OneWay : {S : Type 0} → (S → S → Type 0) → (S → S → Type 0) → (S → Bool) → (S → Bool) → S → Type 0
+abbrev pub OneWay : {S : Type 0} → (S → S → Type 0) → (S → S → Type 0) → (S → Bool) →
+    (S → Bool) → S → Type 0
 OneWay {S} Goes Demand may_go_one_way is_barrier a =
     (may_go_one_way a ≡ true) × ((t : S) → First Goes Demand a t → is_barrier t ≡ true)
 
@@ -46,7 +47,8 @@ Placed r c e = r.Member e × (r.is_release e ≡ false) × (c.is_placed e ≡ tr
 -- the release
 abbrev pub ArrivesFor : {E S : Type 0} → (r : Run E S) → Code r → E → E → Type 0
 ArrivesFor r c a m =
-    Placed r c a × (c.is_arrival a ≡ true) × (count (c.arrives (r.node a)) (r.issue a) ≡ count r.releases (r.time m))
+    Placed r c a × (c.is_arrival a ≡ true)
+    × (count (c.arrives (r.node a)) (r.issue a) ≡ count r.releases (r.time m))
 
 -- the release awaits stores: an arrival at its barrier does
 abbrev pub AwaitsStores : {E S : Type 0} → (r : Run E S) → Code r → E → Type 0
@@ -57,22 +59,28 @@ pub record Walked {E S : Type 0} (r : Run E S) (c : Code r) : Type 0 where
   -- the item's own step is where the walk says
   pub on_way : (e : E) → Placed r c e → c.way (r.node e) (c.at e) ≡ r.point e
   -- up to an item's step the walk goes along edges
-  pub goes : (e : E) (i : ℕ) → Placed r c e → i < c.at e → r.flow.Goes (c.way (r.node e) i) (c.way (r.node e) (suc i))
+  pub goes : (e : E) (i : ℕ) → Placed r c e → i < c.at e →
+      r.flow.Goes (c.way (r.node e) i) (c.way (r.node e) (suc i))
   -- a later own step is further on the walk
-  pub further : (e f : E) → Placed r c e → Placed r c f → r.node e ≡ r.node f → r.step e < r.step f → c.at e < c.at f
+  pub further : (e f : E) → Placed r c e → Placed r c f → r.node e ≡ r.node f → r.step e < r.step f →
+      c.at e < c.at f
   -- one own step is at one place of the walk
-  pub same_at : (e f : E) → Placed r c e → Placed r c f → r.node e ≡ r.node f → r.step e ≡ r.step f → c.at e ≡ c.at f
+  pub same_at : (e f : E) → Placed r c e → Placed r c f → r.node e ≡ r.node f → r.step e ≡ r.step f →
+      c.at e ≡ c.at f
   -- effects are on the walk
   pub effect_placed : (e : E) → r.Member e → r.is_effect e ≡ true → c.is_placed e ≡ true
   -- syncs are on the walk
   pub sync_placed : (s : E) → r.Member s → Sync r s → c.is_placed s ≡ true
   -- each barrier that was passed had an arrival
-  pub arrives_at : (e : E) (i : ℕ) → Placed r c e → i < c.at e → r.flow.is_barrier (c.way (r.node e) i) ≡ true →
-      (a : E) × Placed r c a × (c.is_arrival a ≡ true) × (r.node a ≡ r.node e) × (r.step a < r.step e) × (c.at a ≡ i)
+  pub arrives_at : (e : E) (i : ℕ) → Placed r c e → i < c.at e →
+      r.flow.is_barrier (c.way (r.node e) i) ≡ true →
+      (a : E) × Placed r c a × (c.is_arrival a ≡ true) × (r.node a ≡ r.node e) × (r.step a < r.step e)
+      × (c.at a ≡ i)
   -- arrivals stand at barriers
   pub arrival_barrier : (a : E) → Placed r c a → c.is_arrival a ≡ true → r.flow.is_barrier (r.point a) ≡ true
   -- effects do not stand at barriers
-  pub effect_no_barrier : (e : E) → Placed r c e → r.is_effect e ≡ true → r.flow.is_barrier (r.point e) ≡ false
+  pub effect_no_barrier : (e : E) → Placed r c e → r.is_effect e ≡ true →
+      r.flow.is_barrier (r.point e) ≡ false
 
 -- where the code waits, and what for
 pub record Waited {E S : Type 0} (r : Run E S) (c : Code r) : Type 0 where
@@ -87,7 +95,8 @@ pub record Waited {E S : Type 0} (r : Run E S) (c : Code r) : Type 0 where
   -- a first demand of a site that is not sent one-way is begun after its blocking effect
   pub waits : (e f : E) (i : ℕ) → Placed r c e → Placed r c f → r.is_effect e ≡ true →
       r.flow.is_blocking (r.point e) ≡ true → r.node e ≡ r.node f → c.at e < i → i ≤ c.at f →
-      FirstAt c (r.point e) (c.way (r.node f) i) → c.is_one_way (r.point e) ≡ false → r.time e < c.enters (r.node f) i
+      FirstAt c (r.point e) (c.way (r.node f) i) → c.is_one_way (r.point e) ≡ false →
+      r.time e < c.enters (r.node f) i
   -- a release comes after the one-way effects issued before it
   pub covered : (m e : E) → r.Member m → r.is_release m ≡ true → Placed r c e → r.is_effect e ≡ true →
       c.is_one_way (r.point e) ≡ true → r.issue e < r.time m → r.time e < r.time m
@@ -97,7 +106,8 @@ pub record Counted {E S : Type 0} (r : Run E S) (c : Code r) : Type 0 where
   -- a node's m-th passing is no earlier than the m-th release
   pub pass_after : (p t : ℕ) → c.passes p t ≡ true → count (c.passes p) t < count r.releases (suc t)
   -- the m-th release is after every node's m-th arrival
-  pub release_after : (p t : ℕ) → p < c.nodes → r.releases t ≡ true → count r.releases t < count (c.arrives p) t
+  pub release_after : (p t : ℕ) → p < c.nodes → r.releases t ≡ true →
+      count r.releases t < count (c.arrives p) t
   -- a node goes on only when it has passed
   pub issue_after : (p t : ℕ) → c.issues p t ≡ true → count (c.passes p) t ≡ count (c.arrives p) t
   -- own steps are of nodes
@@ -105,12 +115,14 @@ pub record Counted {E S : Type 0} (r : Run E S) (c : Code r) : Type 0 where
   -- an item on the walk is issued at its moment
   pub placed_issues : (e : E) → Placed r c e → c.issues (r.node e) (r.issue e) ≡ true
   -- a node arrives at the moment of its arrival's item
-  pub arrival_moment : (a : E) → Placed r c a → c.is_arrival a ≡ true → c.arrives (r.node a) (r.issue a) ≡ true
+  pub arrival_moment : (a : E) → Placed r c a → c.is_arrival a ≡ true →
+      c.arrives (r.node a) (r.issue a) ≡ true
   -- each arrival that happens has its item
   pub moment_arrival : (p t : ℕ) → c.arrives p t ≡ true →
       (a : E) × Placed r c a × (c.is_arrival a ≡ true) × (r.node a ≡ p) × (r.issue a ≡ t)
   -- a release that awaits stores comes after the effects of those issued before it
-  pub stored : (m e : E) → r.Member m → r.is_release m ≡ true → AwaitsStores r c m → Placed r c e → IsStore r e →
+  pub stored : (m e : E) → r.Member m → r.is_release m ≡ true → AwaitsStores r c m → Placed r c e →
+      IsStore r e →
       r.issue e < r.time m → r.time e < r.time m
   -- no release happens at the moment of an own step or its effect
   pub alone : (m e : E) → r.Member m → r.is_release m ≡ true → Placed r c e →
@@ -119,14 +131,16 @@ pub record Counted {E S : Type 0} (r : Run E S) (c : Code r) : Type 0 where
 -- between a node's arrival at a barrier and its later own steps lies a release
 abbrev pub ReleaseAfterArrival : {E S : Type 0} → (r : Run E S) → Code r → Type 0
 ReleaseAfterArrival {E} r c =
-    (a f : E) → Placed r c a → Placed r c f → c.is_arrival a ≡ true → r.node a ≡ r.node f → r.step a < r.step f →
-    (m : E) × r.Member m × (r.is_release m ≡ true) × (r.issue a < r.time m) × (r.time m < r.issue f)
+    (a f : E) → Placed r c a → Placed r c f → c.is_arrival a ≡ true → r.node a ≡ r.node f →
+    r.step a < r.step f → (m : E) × r.Member m × (r.is_release m ≡ true) × (r.issue a < r.time m)
+    × (r.time m < r.issue f)
 
 -- between the own step of an effect and a later release lies an arrival of its node
 abbrev pub ArrivalBeforeRelease : {E S : Type 0} → (r : Run E S) → Code r → Type 0
 ArrivalBeforeRelease {E} r c =
-    (m e : E) → r.Member m → r.is_release m ≡ true → Placed r c e → r.is_effect e ≡ true → r.issue e < r.time m →
-    (a : E) × Placed r c a × (c.is_arrival a ≡ true) × (r.node a ≡ r.node e) × (r.step e < r.step a) ×
+    (m e : E) → r.Member m → r.is_release m ≡ true → Placed r c e → r.is_effect e ≡ true →
+    r.issue e < r.time m → (a : E) × Placed r c a × (c.is_arrival a ≡ true) × (r.node a ≡ r.node e)
+    × (r.step e < r.step a) ×
     (r.issue a < r.time m)
 
 -- all that a compiler and a run have to supply beside the run's own facts

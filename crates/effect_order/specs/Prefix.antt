@@ -4,7 +4,8 @@ use Rattle.effect_order.specs.Lists.{In}
 
 -- the own steps of the nodes among all items, by number: each but the first needs the one before it
 pub record OwnSteps {X : Type 0}
-    (is_own : ℕ → X → Bool) (step : X → ℕ) (own : ℕ → ℕ → X) (needs : X → X → Bool) (all : List X) : Type 0 where
+    (is_own : ℕ → X → Bool) (step : X → ℕ) (own : ℕ → ℕ → X) (needs : X → X → Bool)
+    (all : List X) : Type 0 where
   -- an own step of a node is the one with its number
   pub is_it : (p : ℕ) (x : X) → In x all → is_own p x ≡ true → own p (step x) ≡ x
   -- it has no other number

@@ -25,7 +25,8 @@ module _ {X : Type 0} (does : X → List Effect) (allowed : List X → X → Boo
 
   -- the first rule: such a step of the least node that has one
   abbrev pub FirstRule : List X → X → Type 0
-  FirstRule past x = (p : ℕ) × (p < s.nodes) × StepOf past p x × ((q : ℕ) (y : X) → q < p → StepOf past q y → ⊥)
+  FirstRule past x = (p : ℕ) × (p < s.nodes) × StepOf past p x
+      × ((q : ℕ) (y : X) → q < p → StepOf past q y → ⊥)
 
   -- the second rule: the next release, where it is allowed
   abbrev pub SecondRule : List X → X → Type 0
@@ -40,13 +41,15 @@ module _ {X : Type 0} (does : X → List Effect) (allowed : List X → X → Boo
   -- the third rule: the first such effect
   abbrev pub ThirdRule : List X → X → Type 0
   ThirdRule past x =
-      (us vs : List X) × (s.effects ≡ us ++ x ∷ vs) × EffectFree past x × Each (λ a. EffectFree past a → ⊥) us
+      (us vs : List X) × (s.effects ≡ us ++ x ∷ vs) × EffectFree past x
+      × Each (λ a. EffectFree past a → ⊥) us
 
   -- which item may come next: that of the first rule that applies
   pub data Next (past : List X) (x : X) : Type 0 where
     ByFirst : FirstRule past x → Next past x
     BySecond : ((y : X) → FirstRule past y → ⊥) → SecondRule past x → Next past x
-    ByThird : ((y : X) → FirstRule past y → ⊥) → ((y : X) → SecondRule past y → ⊥) → ThirdRule past x → Next past x
+    ByThird : ((y : X) → FirstRule past y → ⊥) → ((y : X) → SecondRule past y → ⊥) →
+        ThirdRule past x → Next past x
 
   -- after the past the items come by the rules, until none applies
   abbrev pub IsByRules : List X → List X → Type 0
@@ -64,7 +67,8 @@ listed s = steps_below s.is_effect s.own s.nodes ++ (s.releases ++ s.effects)
 
 -- what holds of those taken while an order grows by a test
 pub record Took {X : Type 0}
-    (does : X → List Effect) (earlier : X → X → Bool) (follows : List X → X → Bool) (all past : List X) : Type 0 where
+    (does : X → List Effect) (earlier : X → X → Bool) (follows : List X → X → Bool)
+    (all past : List X) : Type 0 where
   -- those taken are items
   pub within : Each (λ a. In a all) past
   -- none was taken twice
@@ -85,7 +89,8 @@ pub record Follows {X : Type 0}
   -- a release does nothing to cells
   pub releases_quiet : Each (λ x. does x ≡ []) s.releases
   -- conflicting effects stand in the order of the run
-  pub in_order : Pairs (λ a b. items_conflict does a b ≡ true → (earlier a b ≡ true) × (earlier b a ≡ false)) s.effects
+  pub in_order : Pairs (λ a b. items_conflict does a b ≡ true → (earlier a b ≡ true)
+      × (earlier b a ≡ false)) s.effects
   -- nothing is earlier than itself
   pub not_itself : (x : X) → earlier x x ≡ false
   -- an own step passes where it is its node's next one and is allowed

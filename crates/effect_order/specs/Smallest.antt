@@ -30,13 +30,15 @@ is_allowed start past e =
 
 -- accesses in the order of their times, each over before its node's next one. own p k: the k-th access of node p.
 pub record OneByOne
-    (nodes : ℕ) (start : Place → Value) (time : Effect → ℕ) (own : ℕ → ℕ → Effect) (all : List Effect) : Type 0 where
+    (nodes : ℕ) (start : Place → Value) (time : Effect → ℕ) (own : ℕ → ℕ → Effect)
+    (all : List Effect) : Type 0 where
   -- there are so many nodes
   pub within : (e : Effect) → In e all → e.node < nodes
   -- the nodes' accesses are numbered from 0
   pub steps : OwnSteps is_of (λ e. e.number) own is_next all
   -- a node's accesses take place in the order of their numbers
-  pub numbered : (e f : Effect) → In e all → In f all → e.node ≡ f.node → e.number < f.number → time e < time f
+  pub numbered : (e f : Effect) → In e all → In f all → e.node ≡ f.node → e.number < f.number →
+      time e < time f
   -- the list is in the order of the times
   pub in_time : Pairs (λ a b. time a < time b) all
   -- each read shows the last write before it
@@ -73,7 +75,8 @@ small_run time all = record {
 }
 
 -- its code: each access demands that the earlier ones are over
-abbrev pub small_code : (nodes : ℕ) (time : Effect → ℕ) (own : ℕ → ℕ → Effect) (all : List Effect) → Code (small_run time all)
+abbrev pub small_code : (nodes : ℕ) (time : Effect → ℕ) (own : ℕ → ℕ → Effect) (all : List Effect) →
+    Code (small_run time all)
 small_code nodes time own all = record {
   Demand = λ a b. Unit {0};
   is_one_way = λ a. false;

@@ -19,7 +19,8 @@ source_order r allowed all = ordered r.does (sooner r) allowed all
 -- all: the run's items, where they conflict in the order of the run. allowed: the law of histories. needs: by that law
 -- the first item has to come before the second.
 pub record Tied {E S : Type 0}
-    (r : Run E S) (start : Place → Value) (needs : E → E → Bool) (allowed : List E → E → Bool) (all : List E) : Type 0 where
+    (r : Run E S) (start : Place → Value) (needs : E → E → Bool) (allowed : List E → E → Bool)
+    (all : List E) : Type 0 where
   -- the list has items of the run
   pub member : (x : E) → In x all → r.Member x
   -- what an item needs must come before it

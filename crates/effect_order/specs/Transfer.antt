@@ -70,4 +70,5 @@ written transfer node number cell earlier = or_read transfer.value node number c
 -- every part of the transfer has occurred
 abbrev pub AllOccurred : Transfer → (node number : ℕ) → List Effect → Type 0
 AllOccurred transfer node number earlier =
-    (cell : ℕ) (wrote : Bool) → IsSome (part_place transfer cell wrote) → IsSome (part_value node number cell wrote earlier)
+    (cell : ℕ) (wrote : Bool) → IsSome (part_place transfer cell wrote) →
+    IsSome (part_value node number cell wrote earlier)

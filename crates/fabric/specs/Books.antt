@@ -36,4 +36,5 @@ pub record Counts (messages : List Message) (book : Book) : Type 0 where
 -- the nodes stand in the books as the past has it
 pub record Stands (past : List Entry) (book : Book) : Type 0 where
   pub standing : (node : ℕ) → node < length book.nodes → (node_at book node).standing ≡ standing_of node past
-  pub ended : (node : ℕ) → node < length book.nodes → (node_at book node).finished ≡ is_some (finished node past)
+  pub ended : (node : ℕ) → node < length book.nodes →
+      (node_at book node).finished ≡ is_some (finished node past)

@@ -20,14 +20,15 @@ abbrev pub value_in : (start : Place → Value) → List Effect → Part → Val
 value_in start earlier (part.Read from back) = held start from earlier
 value_in start earlier (part.Write to value) = value
 
--- the message that the id names is taken out, all others stay under their ids, in their order, and what it becomes is put
--- last
+-- the message that the id names is taken out, all others stay under their ids, in their order, and what it becomes is
+-- put last
 pub record Delivers (old : Pool) (id : MsgId) (message : Message) (value : Value) (new : Pool) : Type 0 where
   pub before : List Pending
   pub after : List Pending
   pub was : old.pending ≡ before ++ record { id = id; message = message } ∷ after
   pub stay : Grows (record old { pending = before ++ after }) new
-  pub is : messages_of new ≡ map (λ (p : Pending). p.message) (before ++ after) ++ back_from message value message.part
+  pub is : messages_of new ≡ map (λ (p : Pending). p.message) (before ++ after)
+      ++ back_from message value message.part
 
 -- ---- what serves the call's own functions
 

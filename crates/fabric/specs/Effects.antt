@@ -31,17 +31,27 @@ access_at node number (_ ∷ past) = access_at node number past
 abbrev pub awaited : (node counter : ℕ) → List Entry → List ℕ
 awaited node counter [] = []
 awaited node counter (Issued other number access ∷ past) =
-    if (other == node) && is_read_on counter access then awaited node counter past ++ number ∷ [] else awaited node counter past
-awaited node counter (Waited other c ∷ past) = if (other == node) && (c == counter) then [] else awaited node counter past
+    if (other == node) && is_read_on counter access then awaited node counter past ++ number ∷ []
+    else awaited node counter past
+awaited node counter (Waited other c ∷ past) =
+    if (other == node) && (c == counter) then [] else awaited node counter past
 awaited node counter (_ ∷ past) = awaited node counter past
 
 -- ---- the part of a cell that comes next; start: what each cell holds before any write
 
 -- a reading part shows what its place holds
-abbrev pub reading : (start : Place → Value) (node number cell : ℕ) → List Effect → Option Place → Option Effect
+abbrev pub reading : (start : Place → Value) (node number cell : ℕ) → List Effect →
+    Option Place → Option Effect
 reading start node number cell earlier None = None
 reading start node number cell earlier (Some place) =
-    Some (record { node = node; number = number; cell = cell; wrote = false; place = place; value = held start place earlier })
+    Some (record {
+      node = node;
+      number = number;
+      cell = cell;
+      wrote = false;
+      place = place;
+      value = held start place earlier;
+    })
 
 abbrev pub writing : (node number cell : ℕ) → Option Place → Option Value → Option Effect
 writing node number cell (Some place) (Some value) =
@@ -61,8 +71,10 @@ or_else (Some effect) other = Some effect
 abbrev pub due : (start : Place → Value) → Transfer → (node number cell : ℕ) → List Effect → Option Effect
 due start transfer node number cell earlier =
     or_else
-    (unless_occurred (part_value node number cell false earlier) (reading start node number cell earlier (part_place transfer cell false)))
-    (unless_occurred (part_value node number cell true earlier) (writing node number cell (part_place transfer cell true) (written transfer node number cell earlier)))
+    (unless_occurred (part_value node number cell false earlier)
+    (reading start node number cell earlier (part_place transfer cell false)))
+    (unless_occurred (part_value node number cell true earlier)
+    (writing node number cell (part_place transfer cell true) (written transfer node number cell earlier)))
 
 -- ---- what occurs with an entry
 
@@ -72,13 +84,15 @@ occurs_on node None earlier = earlier
 occurs_on node (Some effect) earlier = if effect.place.node == node then effect ∷ earlier else earlier
 
 -- with the parts of the cell that occur with the issue: those on the issuer's node up to the first part that is not
-abbrev pub cell_at_issue : (start : Place → Value) → Transfer → (node number cell : ℕ) → List Effect → List Effect
+abbrev pub cell_at_issue : (start : Place → Value) → Transfer → (node number cell : ℕ) →
+    List Effect → List Effect
 cell_at_issue start transfer node number cell earlier =
     let once : List Effect = occurs_on node (due start transfer node number cell earlier) earlier in
     occurs_on node (due start transfer node number cell once) once
 
 -- the first cells, in cell order
-abbrev pub at_issue : (start : Place → Value) → Transfer → (node number : ℕ) → (cells : ℕ) → List Effect → List Effect
+abbrev pub at_issue : (start : Place → Value) → Transfer → (node number : ℕ) → (cells : ℕ) →
+    List Effect → List Effect
 at_issue start transfer node number zero earlier = earlier
 at_issue start transfer node number (suc cell) earlier =
     cell_at_issue start transfer node number cell (at_issue start transfer node number cell earlier)
@@ -88,7 +102,8 @@ and_effect None earlier = earlier
 and_effect (Some effect) earlier = effect ∷ earlier
 
 -- the part that a delivery for the cell of the access brings
-abbrev pub at_delivery : (start : Place → Value) → Option Access → (node number cell : ℕ) → List Effect → Option Effect
+abbrev pub at_delivery : (start : Place → Value) → Option Access → (node number cell : ℕ) →
+    List Effect → Option Effect
 at_delivery start None node number cell earlier = None
 at_delivery start (Some access) node number cell earlier = due start (transfer_of access) node number cell earlier
 
@@ -98,7 +113,8 @@ effects start [] = []
 effects start (Issued node number access ∷ past) =
     at_issue start (transfer_of access) node number (transfer_of access).cells (effects start past)
 effects start (Delivered node number cell value ∷ past) =
-    and_effect (at_delivery start (access_at node number past) node number cell (effects start past)) (effects start past)
+    and_effect (at_delivery start (access_at node number past) node number cell (effects start past))
+    (effects start past)
 effects start (_ ∷ past) = effects start past
 
 -- ---- what a wait is answered

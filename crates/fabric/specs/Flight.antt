@@ -22,15 +22,19 @@ message node number cell track what =
 -- what a message for the part does: a read of a copy comes back to write
 abbrev pub part_of : Transfer → (cell : ℕ) → Effect → Part
 part_of transfer cell effect =
-    if effect.wrote then part.Write effect.place effect.value else part.Read effect.place (part_place transfer cell true)
+    if effect.wrote then part.Write effect.place effect.value
+    else part.Read effect.place (part_place transfer cell true)
 
 -- the message that carries the part that is due
 abbrev pub carried : Transfer → (node number cell : ℕ) → Track → Option Effect → List Message
 carried transfer node number cell track None = []
-carried transfer node number cell track (Some effect) = message node number cell track (part_of transfer cell effect) ∷ []
+carried transfer node number cell track (Some effect) =
+    message node number cell track (part_of transfer cell effect) ∷ []
 
--- the messages that an issue makes for the first cells, in cell order; later: the effects so far, the issue's own ones too
-abbrev pub sent : (start : Place → Value) → Transfer → (node number : ℕ) → Track → (later : List Effect) → (cells : ℕ) → List Message
+-- the messages that an issue makes for the first cells, in cell order; later: the effects so far, the issue's own ones
+-- too
+abbrev pub sent : (start : Place → Value) → Transfer → (node number : ℕ) → Track →
+    (later : List Effect) → (cells : ℕ) → List Message
 sent start transfer node number track later zero = []
 sent start transfer node number track later (suc cell) =
     sent start transfer node number track later cell
@@ -62,7 +66,8 @@ abbrev pub in_flight : (start : Place → Value) → List Entry → List Message
 in_flight start [] = []
 in_flight start (Issued node number access ∷ past) =
     in_flight start past
-    ++ sent start (transfer_of access) node number (track_of access) (effects start (Issued node number access ∷ past)) (transfer_of access).cells
+    ++ sent start (transfer_of access) node number (track_of access)
+    (effects start (Issued node number access ∷ past)) (transfer_of access).cells
 in_flight start (Delivered node number cell value ∷ past) =
     without node number cell (in_flight start past) ++ returned node number cell value (in_flight start past)
 in_flight start (_ ∷ past) = in_flight start past

@@ -21,11 +21,13 @@ abbrev pub HoldsAfter : Memory → List Effect → Type 0
 HoldsAfter memory earlier = Holds memory (λ place. held (start memory.layout) place earlier)
 
 -- the cell's parts on the node have occurred, and its message is put last
-pub record CellIssued (node number cell : ℕ) (access : Access) (earlier : List Effect) (was is : Memory) (pool pool' : Pool) : Type 0 where
+pub record CellIssued (node number cell : ℕ) (access : Access) (earlier : List Effect) (was is : Memory)
+    (pool pool' : Pool) : Type 0 where
   pub holds : HoldsAfter is (cell_at_issue (start was.layout) (transfer_of access) node number cell earlier)
   pub messages : messages_of pool' ≡ messages_of pool
       ++ carried (transfer_of access) node number cell (track_of access)
-      (due (start was.layout) (transfer_of access) node number cell (cell_at_issue (start was.layout) (transfer_of access) node number cell earlier))
+      (due (start was.layout) (transfer_of access) node number cell
+      (cell_at_issue (start was.layout) (transfer_of access) node number cell earlier))
 
 -- the message may be put
 pub record IsSendable (pool : Pool) (m : Message) : Type 0 where
@@ -55,7 +57,8 @@ pub record Unissued (node number : ℕ) (earlier : List Effect) : Type 0 where
   pub none : (cell : ℕ) (wrote : Bool) → part_value node number cell wrote earlier ≡ None
 
 -- the first cells' parts on the node have occurred, and their messages are put last
-pub record CellsIssued (node number cells : ℕ) (access : Access) (earlier : List Effect) (was is : Memory) (pool pool' : Pool) : Type 0 where
+pub record CellsIssued (node number cells : ℕ) (access : Access) (earlier : List Effect) (was is : Memory)
+    (pool pool' : Pool) : Type 0 where
   pub holds : HoldsAfter is (at_issue (start was.layout) (transfer_of access) node number cells earlier)
   pub messages : messages_of pool' ≡ messages_of pool
       ++ sent (start was.layout) (transfer_of access) node number (track_of access)

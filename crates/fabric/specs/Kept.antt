@@ -39,14 +39,16 @@ pub record IsOfJournal (state : State) : Type 0 where
 -- each node has as many pending messages as it has issued cells, over all tracks, whose last part has not occurred
 abbrev pub OpenCellsPend : State → Type 0
 OpenCellsPend state =
-    (node : ℕ) → length (of_issuer node state.pool.pending) ≡ outstanding (start_of state) (λ other. other == node) any_track state.past
+    (node : ℕ) → length (of_issuer node state.pool.pending) ≡ outstanding (start_of state)
+    (λ other. other == node) any_track state.past
 
 -- ---- what serves the calls to come
 
 -- the part lies in the layout, and what it writes fits
 abbrev pub PartReady : Arrangement → Part → Type 0
 PartReady layout (part.Read from None) = IsPlace layout from
-PartReady layout (part.Read from (Some to)) = IsPlace layout from × IsPlace layout to × (type_at layout from ≡ type_at layout to)
+PartReady layout (part.Read from (Some to)) =
+    IsPlace layout from × IsPlace layout to × (type_at layout from ≡ type_at layout to)
 PartReady layout (part.Write to value) = IsPlace layout to × Fits layout to value
 
 pub record IsReady (layout : Arrangement) (sites : ℕ) (m : Message) : Type 0 where
@@ -71,10 +73,12 @@ pub record IsRead (past : List Entry) (earlier : List Effect) (read : Awaited) :
 
 -- the reads are those that waits will answer
 pub record AreAwaited (start : Place → Value) (past : List Entry) (reads : List Awaited) : Type 0 where
-  pub numbers : (node counter : ℕ) → map (λ (read : Awaited). read.number) (reads_on node counter reads) ≡ awaited node counter past
+  pub numbers : (node counter : ℕ) → map (λ (read : Awaited). read.number)
+      (reads_on node counter reads) ≡ awaited node counter past
   pub each : Each (IsRead past (effects start past)) reads
 
--- what a fabric keeps, with the reads that waits will answer, the number of nodes of its journal and its room for entries
+-- what a fabric keeps, with the reads that waits will answer, the number of nodes of its journal and its room for
+-- entries
 pub record IsFabric (state : State) (reads : Waiting) (nodes room : ℕ) : Type 0 where
   pub of_journal : IsOfJournal state
   pub ready : Each (IsReady state.memory.layout state.book.sites) (messages_of state.pool)

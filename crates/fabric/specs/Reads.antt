@@ -27,4 +27,5 @@ values_in reads = map (λ (read : Awaited). read.value) reads
 
 -- the read with the value, if it is this access
 abbrev pub filled : (node number : ℕ) → Value → Awaited → Awaited
-filled node number value read = if (read.node == node) && (read.number == number) then record read { value = value } else read
+filled node number value read = if (read.node == node) && (read.number == number)
+    then record read { value = value } else read

@@ -37,7 +37,8 @@ pub record IssueWired (nodes : ℕ) (past : List Entry) (node number : ℕ) : Ty
 
 -- A delivery is the part of an issued access's cell that comes next: so each part occurs at most once, a cell's write
 -- after its read, a read with the value last written, a write with its access's value, a copy's write with its read's.
-pub record DeliveryWired (start : Place → Value) (nodes : ℕ) (past : List Entry) (node number cell : ℕ) (value : Value) : Type 0 where
+pub record DeliveryWired (start : Place → Value) (nodes : ℕ) (past : List Entry) (node number cell : ℕ)
+    (value : Value) : Type 0 where
   pub node_within : node < nodes
   pub access : Access
   pub issued : access_at node number past ≡ Some access
@@ -55,7 +56,8 @@ pub record WaitWired (start : Place → Value) (nodes : ℕ) (past : List Entry)
 pub record PassWired (start : Place → Value) (nodes : ℕ) (past : List Entry) (node : ℕ) : Type 0 where
   pub running : Running nodes past node
   pub all_arrived : (other : ℕ) → other < nodes → passes node past + 1 ≤ arrivals other past
-  pub covered_done : released past < passes node past + 1 → (other : ℕ) → other < nodes → AllDone start past is_covered other
+  pub covered_done : released past < passes node past + 1 → (other : ℕ) → other < nodes →
+      AllDone start past is_covered other
   pub stores_done : released past < passes node past + 1 → stores_at (passes node past + 1) past ≡ true
       → (other : ℕ) → other < nodes → AllDone start past is_store other
 

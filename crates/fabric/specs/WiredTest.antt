@@ -33,7 +33,8 @@ abbrev pub has_value : Value → Option Effect → Bool
 has_value value None = false
 has_value value (Some effect) = same_value value effect.value
 
-abbrev pub is_delivery : (start : Place → Value) (nodes : ℕ) → List Entry → (node number cell : ℕ) → Value → Bool
+abbrev pub is_delivery : (start : Place → Value) (nodes : ℕ) → List Entry → (node number cell : ℕ) →
+    Value → Bool
 is_delivery start nodes past node number cell value =
     nat_lt node nodes
     && has_value value (at_delivery start (access_at node number past) node number cell (effects start past))
@@ -55,7 +56,8 @@ is_clear start nodes past m =
 abbrev pub is_pass : (start : Place → Value) (nodes : ℕ) → List Entry → (node : ℕ) → Bool
 is_pass start nodes past node =
     let m : ℕ = passes node past + 1 in
-    is_running nodes past node && (all_below nodes (λ other. nat_le m (arrivals other past)) && is_clear start nodes past m)
+    is_running nodes past node
+    && (all_below nodes (λ other. nat_le m (arrivals other past)) && is_clear start nodes past m)
 
 abbrev pub stands_next : List Entry → (node : ℕ) → Bool
 stands_next past node = arrivals node past == released past + 1
@@ -69,7 +71,8 @@ is_broken nodes past node =
 abbrev pub entry_wired : (start : Place → Value) (nodes : ℕ) → List Entry → Entry → Bool
 entry_wired start nodes past (Issued node number access) = is_going nodes past node && (number == issues node past)
 entry_wired start nodes past (Delivered node number cell value) = is_delivery start nodes past node number cell value
-entry_wired start nodes past (Waited node counter) = is_going nodes past node && is_done start past (is_counter counter) node
+entry_wired start nodes past (Waited node counter) =
+    is_going nodes past node && is_done start past (is_counter counter) node
 entry_wired start nodes past (Arrived node stores) = is_going nodes past node
 entry_wired start nodes past (Passed node) = is_pass start nodes past node
 entry_wired start nodes past (Finished node Waiting) = is_running nodes past node && is_broken nodes past node

@@ -135,7 +135,8 @@ backed entries w None line d = d
 backed entries w (Some operation) line d = stepped entries w operation (site_by operation line Exposed) d
 
 -- the right side is joined to what was read; all that occurs in the update is noted before
-unfoldable pub joined : List Entry → Within → Operation → (back : Option Operation) → (line : ℕ) → Drawing → Drawing
+unfoldable pub joined : List Entry → Within → Operation → (back : Option Operation) → (line : ℕ) →
+    Drawing → Drawing
 joined entries w operation back line d =
     stepped entries w operation (site_by operation line Exposed)
     (noting (occurring_back w.params back) (noting (occurring_by w.params operation) d))

@@ -37,7 +37,8 @@ within nodes returns n f =
     record { nodes = nodes; returns = returns; function = n; params = length f.params; mines = [] }
 
 -- the points of the functions, the first of which has the number n and the first point k, and s sites before it
-abbrev pub points_from : (nodes : ℕ) → (returns : ℕ → List ℕ) → (n k s : ℕ) → List Function → List Placed
+abbrev pub points_from : (nodes : ℕ) → (returns : ℕ → List ℕ) → (n k s : ℕ) →
+    List Function → List Placed
 points_from nodes returns n k s [] = []
 points_from nodes returns n k s (f ∷ more) =
     points_of (within nodes returns n f) f k s ++
@@ -54,7 +55,8 @@ edge from to = record { from = from; to = to }
 -- from a call, or from Start, to the first point of the function
 abbrev pub edges_called : List Function → (from : ℕ) → (callee : Option ℕ) → List Edge
 edges_called functions from None = []
-edges_called functions from (Some f) = if ltb f (length functions) then edge from (first_point functions f) ∷ [] else []
+edges_called functions from (Some f) = if ltb f (length functions) then edge from (first_point functions f)
+    ∷ [] else []
 
 abbrev pub edges_at : List Function → Placed → List Edge
 edges_at functions p = map (λ from. edge from p.at) p.froms ++ edges_called functions p.at p.callee

@@ -1,5 +1,5 @@
--- Lists that are gathered from the parts of a source in the order of the text: the objects that it exposes, or the locals
--- that it writes.
+-- Lists that are gathered from the parts of a source in the order of the text: the objects that it exposes, or the
+-- locals that it writes.
 use Rattle.std.specs.Prelude.{ℕ, List, [], ◌∷◌, ◌++◌, option_to_list}
 use Rattle.sc_core.specs.declared.operation.Operation.{Operation}
 use Rattle.sc_core.specs.declared.operation.Action.{Action}

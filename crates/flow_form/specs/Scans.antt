@@ -53,7 +53,8 @@ function_scan f c =
 
 -- with a function that begins at this point and was scanned so
 unfoldable pub with_entry : (first : ℕ) → Scan → Whole → Whole
-with_entry first s w = record { entries = w.entries ++ record { first = first; returns = s.returns } ∷ []; count = s.count }
+with_entry first s w =
+    record { entries = w.entries ++ record { first = first; returns = s.returns } ∷ []; count = s.count }
 
 unfoldable pub with_function : Function → Whole → Whole
 with_function f w = with_entry w.count.points (function_scan f w.count) w

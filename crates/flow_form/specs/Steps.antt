@@ -42,7 +42,8 @@ callee_of _ = None
 
 -- ---- accesses, by the places among the arguments
 
-abbrev pub site_with : SiteKind → (line : ℕ) → (reads writes : Option Form) → (fills : Option ℕ) → Option Site
+abbrev pub site_with : SiteKind → (line : ℕ) → (reads writes : Option Form) →
+    (fills : Option ℕ) → Option Site
 site_with kind line reads writes fills =
     Some (record { kind = kind; line = line; reads = reads; writes = writes; fills = fills })
 
@@ -79,7 +80,8 @@ bare w kind t froms takes reads = record {
 }
 
 -- the step of an operation at the point t, behind s sites; `reads` are the locals that occur, with the node mark
-abbrev pub step_at : Within → Operation → Arguments → (line t s : ℕ) → (froms takes reads : List ℕ) → Placed
+abbrev pub step_at : Within → Operation → Arguments → (line t s : ℕ) →
+    (froms takes reads : List ℕ) → Placed
 step_at w operation arguments line t s froms takes reads = record {
   at = t;
   froms = froms;
@@ -94,7 +96,8 @@ step_at w operation arguments line t s froms takes reads = record {
   site = site_of w operation arguments line;
 }
 
-abbrev pub action_at : Within → Action → Arguments → (line t s : ℕ) → (froms takes reads : List ℕ) → Placed
+abbrev pub action_at : Within → Action → Arguments → (line t s : ℕ) →
+    (froms takes reads : List ℕ) → Placed
 action_at w action arguments line t s froms takes reads = record {
   at = t;
   froms = froms;

@@ -1,5 +1,6 @@
 pub mod Marks
 pub mod Well
+pub mod Waiting
 pub mod ToldRuns
 pub mod PlayedRuns
 pub mod ByOracles

@@ -1,5 +1,5 @@
--- Stories and runs are tied: under each oracle code and source show what their runs do by the oracle's answers, and each
--- run that ends is by some oracle's answers.
+-- Stories and runs are tied: under each oracle code and source show what their runs do by the oracle's answers, and
+-- each run that ends is by some oracle's answers.
 use Rattle.std.specs.Prelude.{◌≡◌, ℕ, Bool, List, ◌++◌}
 use Rattle.resumption.specs.Resumption.{Ends, run_of}
 use Rattle.sc_base.specs.declared.value.End.{End}

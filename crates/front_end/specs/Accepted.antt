@@ -28,12 +28,14 @@ pub record IsRead (source : List ℕ) (lexed : Lexed) (tree : PlainTree) : Type 
   pub shallow : Shallow LIMITS.depth lexed.tokens (length lexed.tokens + 1)
 
 -- the objects of the source have this layout on the nodes
-pub record IsLaid (source : List ℕ) (nodes : ℕ) (lexed : Lexed) (tree : PlainTree) (layout : Arrangement) : Type 0 where
+pub record IsLaid (source : List ℕ) (nodes : ℕ) (lexed : Lexed) (tree : PlainTree)
+    (layout : Arrangement) : Type 0 where
   pub read : IsRead source lexed tree
   pub laid : layout_of tree.objects nodes ≡ Ok layout
 
 -- A source is accepted where it breaks no typing rule besides. Its names are those of its tokens.
-pub record IsAccepted (source : List ℕ) (nodes : ℕ) (names : List Text) (typed : PlainTypedTree) (layout : Arrangement) : Type 0 where
+pub record IsAccepted (source : List ℕ) (nodes : ℕ) (names : List Text) (typed : PlainTypedTree)
+    (layout : Arrangement) : Type 0 where
   pub lexed : Lexed
   pub tree : PlainTree
   pub laid : IsLaid source nodes lexed tree layout

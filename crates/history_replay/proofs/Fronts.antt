@@ -11,7 +11,8 @@ use Rattle.core_run.specs.declared.step.Step.TheVariants as step
 use Rattle.core_run.specs.Seen.{Stands, Shows}
 use Rattle.replay_laws.proofs.Lists.{of_changed, of_longer}
 use Rattle.replay_laws.proofs.Others.{unless}
-use Rattle.replay_stages.specs.Courses.{Course, WaitsForAnswers, is_answered, stop_of, IsStuck}
+use Rattle.replay_stages.specs.Courses.{Course, stop_of, IsStuck}
+use Rattle.sc_meaning.specs.Answering.{WaitsForAnswers, is_answered}
 use Rattle.replay_stages.specs.Stage.{Front}
 use Rattle.replay_stages.specs.Laws.{with_front}
 use Rattle.replay_stages.proofs.Courses.{followed}

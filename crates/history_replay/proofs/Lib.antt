@@ -1,5 +1,4 @@
 pub mod Fronts
-pub mod Sources
 pub mod Cells
 pub mod Reaching
 pub mod Taking

@@ -28,7 +28,7 @@ use Rattle.replay_books.specs.Tables.{fresh_tables}
 use Rattle.replay_tables.specs.Cells.{known_at_start}
 use Rattle.replay_stages.proofs.Courses.{courses_are_followed}
 use Rattle.history_replay.specs.Fronts.{first_front}
-use Rattle.history_replay.proofs.Sources.{source_waits}
+use Rattle.forgotten_marks.proofs.Waiting.{source_waits}
 use Rattle.history_replay.proofs.Cells.{holds_start, start_in, only_start}
 use Rattle.history_replay.specs.declared.judge.Judge.{Judge}
 use Rattle.history_replay.specs.Fronts.{AllAt, said}

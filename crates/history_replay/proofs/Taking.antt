@@ -19,7 +19,8 @@ use Rattle.replay_books.specs.Row.{landing}
 use Rattle.replay_books.specs.Tables.{TablesBook, row_at, goes_on_at, made_at, with_made, with_sync, with_arrival, with_occurred, split_over, may_occur_in_tables}
 use Rattle.replay_laws.specs.Keeps.{requests_of}
 use Rattle.replay_tables.specs.Cells.{CellBook, holds, cell_in, with_cell}
-use Rattle.replay_stages.specs.Courses.{Course, is_answered, IsStuck}
+use Rattle.replay_stages.specs.Courses.{Course, IsStuck}
+use Rattle.sc_meaning.specs.Answering.{is_answered}
 use Rattle.replay_stages.specs.Stage.{Front, Stage}
 use Rattle.replay_stages.specs.Laws.{is_read_now, may, with_front, GoesOn, StoodPast, written_to, shows_after}
 use Rattle.replay_stages.proofs.Going.{goes_on}

@@ -11,7 +11,8 @@ use Rattle.core_run.specs.declared.step.Step.{Step}
 use Rattle.core_run.specs.declared.step.Step.TheVariants as step
 use Rattle.core_run.specs.Views.{plain_halt}
 use Rattle.core_run.specs.Seen.{Stands}
-use Rattle.replay_stages.specs.Courses.{Course, is_answered, IsStuck}
+use Rattle.replay_stages.specs.Courses.{Course, IsStuck}
+use Rattle.sc_meaning.specs.Answering.{is_answered}
 use Rattle.replay_stages.specs.Stage.{Front}
 use Rattle.replay_stages.specs.Laws.{with_front}
 
@@ -45,7 +46,8 @@ abbrev pub AllAt : List Runner → (ℕ → Front) → Type 0
 AllAt runners fronts = (n : ℕ) (r : Runner) → slice_get runners n ≡ Some r → IsAt r (fronts n)
 
 -- so it is but for the node, whose runner made the requests under the answers
-pub record GoesTo (runners : List Runner) (fronts : ℕ → Front) (node : ℕ) (start : SourceDoing) (given : List Answer)
+pub record GoesTo (runners : List Runner) (fronts : ℕ → Front) (node : ℕ) (start : SourceDoing)
+    (given : List Answer)
     (requests : List Request) : Type 0 where
   pub front : Front
   pub all : AllAt runners (with_front fronts node front)
@@ -79,7 +81,8 @@ module _ (count : ℕ) (start : ℕ → SourceDoing) (given : ℕ → List Answe
   pub record Passing (node : ℕ) (runners : List Runner) (fronts : ℕ → Front) : Type 0 where
     pub now : ℕ → Front
     pub at : AllAt runners now
-    pub passed : (n : ℕ) → n < node → Course (start n) (given n ++ Passed ∷ []) (all n) (now n).text (now n).rest
+    pub passed : (n : ℕ) → n < node → Course (start n) (given n ++ Passed ∷ []) (all n)
+        (now n).text (now n).rest
     pub left : (n : ℕ) → node ≤ n → now n ≡ fronts n
 
   pub record SomeStuck : Type 0 where

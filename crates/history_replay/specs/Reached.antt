@@ -23,11 +23,13 @@ pub record Reached (processes : Processes) (past : List SourceEvent) (j : Judge)
   pub only : (place : Place) → IsSome (cell_in j.cells.known place) → IsPlace j.layout.now place
 
 -- so it does, and this is the node's next request
-pub record NextAt (processes : Processes) (past : List SourceEvent) (node number : ℕ) (j : Judge) (o : Option Request) : Type 0 where
+pub record NextAt (processes : Processes) (past : List SourceEvent) (node number : ℕ) (j : Judge)
+    (o : Option Request) : Type 0 where
   pub reached : Reached processes past j
   pub next : o ≡ next_in j.tables reached.fronts node number
 
 -- the judge goes on with the event, or no legal and complete history does
-pub record Taken (processes : Processes) (past : List SourceEvent) (event : SourceEvent) (new : Judge) (ok : Bool) : Type 0 where
+pub record Taken (processes : Processes) (past : List SourceEvent) (event : SourceEvent) (new : Judge)
+    (ok : Bool) : Type 0 where
   pub goes_on : ok ≡ true → Reached processes (event ∷ past) new
   pub doomed : ok ≡ false → IsDoomed processes (event ∷ past)

@@ -1,5 +1,5 @@
--- What code keeps of the issues so far, and how it finds what an entry brings and which event an effect is. No public clause
--- cites this module. A past is a list of entries, the newest first.
+-- What code keeps of the issues so far, and how it finds what an entry brings and which event an effect is. No public
+-- clause cites this module. A past is a list of entries, the newest first.
 use Rattle.std.specs.Prelude.{◌≡◌, ℕ, ◌<◌, ◌^◌, List, [], ◌∷◌, Option, Some, None, Bool, false, unwrap_or, nat_eq, ◌==◌, ◌&&◌, if◌then◌else◌}
 use Rattle.std.specs.HashMap.{HashMap, get}
 use Rattle.std.specs.Option.{option_map, IfSome}
@@ -23,7 +23,8 @@ use Rattle.journal_effects.specs.Numbered.{HasNumberedCells}
 abbrev pub issue_at : (node number : ℕ) → List Entry → Option Issue
 issue_at node number [] = None
 issue_at node number (Issued other n access ∷ past) =
-    if (other == node) && (n == number) then Some (record { access = access; request = requested node past }) else issue_at node number past
+    if (other == node) && (n == number) then Some (record { access = access; request = requested node past })
+    else issue_at node number past
 issue_at node number (_ ∷ past) = issue_at node number past
 
 -- ---- the tables
@@ -51,7 +52,8 @@ FewRequests issues = (node : ℕ) → requests_in issues.requests node < 2 ^ 63
 
 -- each cell of each issued access has a number
 abbrev pub HaveNumberedCells : Issues → Type 0
-HaveNumberedCells issues = (node number : ℕ) → IfSome (issue_in issues.issues node number) (λ issue. HasNumberedCells issue.access)
+HaveNumberedCells issues = (node number : ℕ) →
+    IfSome (issue_in issues.issues node number) (λ issue. HasNumberedCells issue.access)
 
 -- ---- what is read of them
 

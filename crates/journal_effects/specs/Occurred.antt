@@ -9,7 +9,14 @@ use Rattle.effect_order.specs.Transfer.{part_value}
 use Rattle.journal_effects.specs.declared.effect.CellEffect.{CellEffect}
 
 abbrev pub effect_of : CellEffect → Effect
-effect_of e = record { node = e.node; number = e.number; cell = e.cell; wrote = e.wrote; place = e.place; value = e.value }
+effect_of e = record {
+  node = e.node;
+  number = e.number;
+  cell = e.cell;
+  wrote = e.wrote;
+  place = e.place;
+  value = e.value;
+}
 
 abbrev pub newest_first : List CellEffect → List Effect
 newest_first effects = reverse (map effect_of effects)
@@ -24,7 +31,8 @@ same_part a b = (a.0 == b.0) && (a.1 == b.1) && (a.2 == b.2) && beq a.3 b.3
 
 abbrev pub ArePartsOf : {S : Type 0} → HashMap PartKey Value S → List Effect → Type 0
 ArePartsOf parts earlier =
-    (node number cell : ℕ) (wrote : Bool) → get same_part parts (node, number, cell, wrote) ≡ part_value node number cell wrote earlier
+    (node number cell : ℕ) (wrote : Bool) →
+    get same_part parts (node, number, cell, wrote) ≡ part_value node number cell wrote earlier
 
 -- ---- what was last written to each cell, by object, node and offset
 

@@ -12,7 +12,7 @@ use Rattle.fabric.specs.Asked.{Machine}
 use Rattle.least_order.specs.declared.edge.Edge.{Edge}
 use Rattle.least_order.specs.Least.{least_order}
 use Rattle.least_order.specs.Ways.{AreWays}
-use Rattle.source_order.specs.Answering.{AllWaitForAnswers}
+use Rattle.sc_meaning.specs.Answering.{AllWaitForAnswers}
 use Rattle.source_order.specs.Items.{items, source_order}
 use Rattle.source_order.specs.Made.{IsMade}
 use Rattle.source_order.specs.Needs.{before, NoCycle}
@@ -51,4 +51,5 @@ OrderIsByEdges =
     → CanBeOrdered processes machine journal
     → AreWays edges (length (items processes.start processes.nodes (reverse journal)))
     (before_at processes.start (reverse journal) (items processes.start processes.nodes (reverse journal)))
-    → arranged (items processes.start processes.nodes (reverse journal)) edges ≡ Some (source_order processes journal)
+    → arranged (items processes.start processes.nodes (reverse journal)) edges ≡ Some
+    (source_order processes journal)

@@ -61,7 +61,8 @@ abbrev pub is_ready : (count : ℕ) (out counts : List ℕ) (y : ℕ) → Bool
 is_ready count out counts y = nat_lt y count && (not (is_in out y) && (slice_index counts y == 0))
 
 -- The edges from x whose number is below `at` are counted still, though x is taken; so are all edges from items left.
-pub record IsAt (edges : List Edge) (count x at : ℕ) (out counts : List ℕ) (ready : List (Reverse ℕ)) : Type 0 where
+pub record IsAt (edges : List Edge) (count x at : ℕ) (out counts : List ℕ)
+    (ready : List (Reverse ℕ)) : Type 0 where
   pub items : length counts ≡ count
   pub counts_are : (y : ℕ) → y < count →
       slice_index counts y ≡ how_many edges (is_unmet out y) (length edges) + how_many edges (is_link x y) at

@@ -26,7 +26,8 @@ abbrev pub left_before : Program
 left_before = program (loop None break (put 0 1) nothing ∷ put 1 2 ∷ []) []
 
 abbrev pub left_after : Program
-left_after = program (loop None nothing (in_order (put 0 1 ∷ continue ∷ put 0 3 ∷ [])) break ∷ put 1 2 ∷ []) []
+left_after = program (loop None nothing (in_order (put 0 1 ∷ continue ∷ put 0 3 ∷ [])) break ∷
+    put 1 2 ∷ []) []
 
 abbrev pub calling : (function : ℕ) → Function
 calling f = record {

@@ -112,7 +112,8 @@ exchange = processes
 -- node 0 copies two cells to node 1 in each way, while node 1 does nothing but end
 abbrev pub copying : Processes
 copying = processes
-    (write 0 (number 3) ∷ copy Blocking 16 1 0 ∷ copy Split 8 2 1 ∷ sync ∷ copy OneWay 8 3 0 ∷ all_store_sync ∷ [])
+    (write 0 (number 3) ∷ copy Blocking 16 1 0 ∷ copy Split 8 2 1 ∷ sync ∷ copy OneWay 8 3 0 ∷
+    all_store_sync ∷ [])
     (all_store_sync ∷ [])
 
 -- a store that no barrier waits for

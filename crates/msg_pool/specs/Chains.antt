@@ -95,7 +95,8 @@ members group_of group keys = filter (λ key. group_of key == group) keys
 
 -- each group's chain is the list of the keys that belong to it
 abbrev pub AreChains : Links → (ℕ → ℕ) → List Chain → List ℕ → Type 0
-AreChains links group_of chains keys = (group : ℕ) → IsChain links (chain_at chains group) (members group_of group keys)
+AreChains links group_of chains keys = (group : ℕ) →
+    IsChain links (chain_at chains group) (members group_of group keys)
 
 -- the key is none of these
 abbrev pub IsFresh : ℕ → List ℕ → Type 0

@@ -45,7 +45,8 @@ ids pending = map (λ entry. entry.id) pending
 
 -- no id stands at two places
 abbrev pub NamesOnce : List MsgId → Type 0
-NamesOnce names = (i k : ℕ) (id : MsgId) → slice_get names i ≡ Some id → slice_get names k ≡ Some id → i ≡ k
+NamesOnce names = (i k : ℕ) (id : MsgId) → slice_get names i ≡ Some id →
+    slice_get names k ≡ Some id → i ≡ k
 
 -- the id names a pending message
 abbrev pub IsPending : Pool → MsgId → Type 0

@@ -1,5 +1,6 @@
--- Code carries a flow and a plan: it is the runs of the points with the waits of the plan before them, and each of its runs
--- walks along the edges of the flow, a control-flow graph after Allen (1970), and enters each run at its beginning.
+-- Code carries a flow and a plan: it is the runs of the points with the waits of the plan before them, and each of its
+-- runs walks along the edges of the flow, a control-flow graph after Allen (1970), and enters each run at its
+-- beginning.
 use Rattle.std.specs.Prelude.{◌≡◌, ◌⊎◌, ℕ, ◌+◌, ◌<◌, List, [], ◌∷◌, length, slice_get, Option, Some, None, All}
 use Rattle.sc_layout.specs.Layout.{Arrangement}
 use Rattle.sc_isa.specs.declared.code.Code.{Code}
@@ -24,14 +25,15 @@ length_or_none (Some ops) = length ops
 abbrev pub run_length : Plan → List (List Op) → (point : ℕ) → ℕ
 run_length plan runs t = length (waits_at plan t) + length_or_none (slice_get runs t)
 
--- An instruction is the first of a run, or follows the one before it in the run, or is of none. A run is left only behind
--- its last instruction.
+-- An instruction is the first of a run, or follows the one before it in the run, or is of none. A run is left only
+-- behind its last instruction.
 abbrev pub Follows : (length : ℕ → ℕ) → (before now : Option Stands) → Type 0
 Follows length None None = Unit {0}
 Follows length None (Some now) = now.number ≡ 0
 Follows length (Some before) None = before.number + 1 ≡ length before.point
 Follows length (Some before) (Some now) =
-    ((now.number ≡ 0) × (before.number + 1 ≡ length before.point)) ⊎ ((now.point ≡ before.point) × (now.number ≡ before.number + 1))
+    ((now.number ≡ 0) × (before.number + 1 ≡ length before.point))
+    ⊎ ((now.point ≡ before.point) × (now.number ≡ before.number + 1))
 
 pub record Carries (code : Code) (layout : Arrangement) (graph : Graph) (plan : Plan) : Type 0 where
   -- The code apart from what stands outside is the runs of the points, one after another; directly before the first
@@ -40,7 +42,8 @@ pub record Carries (code : Code) (layout : Arrangement) (graph : Graph) (plan : 
   pub runs : List (List Op)
   pub spelled : IsSpelled code graph plan pieces runs
   -- a node begins outside of the runs or at the beginning of one
-  pub begins : (budget : ℕ) → Follows (run_length plan runs) None (stands_at plan pieces (begin code budget).frame.at)
+  pub begins : (budget : ℕ) → Follows (run_length plan runs) None
+      (stands_at plan pieces (begin code budget).frame.at)
   -- for every node, budget and answers runs are entered at their beginning and gone through in order
   pub in_runs : (node budget : ℕ) (s next : State) → node < layout.nodes → Reached code layout node budget s
       → Leads layout (step_of code layout node s) next

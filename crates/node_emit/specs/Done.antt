@@ -74,4 +74,5 @@ arms_breaks plan (a ∷ more) d = breaks_of plan a.body (entered plan a d) ++ ar
 
 unfoldable pub arms_continues : Plan → List Armed → Written → List ℕ
 arms_continues plan [] d = []
-arms_continues plan (a ∷ more) d = continues_of plan a.body (entered plan a d) ++ arms_continues plan more (arm_put plan a d)
+arms_continues plan (a ∷ more) d = continues_of plan a.body (entered plan a d)
+    ++ arms_continues plan more (arm_put plan a d)

@@ -1,5 +1,5 @@
--- Code while it is written, and what each part of a core tree adds to it. A jump whose target is not known yet leads to 0
--- until it is led on: backpatching, as in Aho, Sethi and Ullman, "Compilers" (1986).
+-- Code while it is written, and what each part of a core tree adds to it. A jump whose target is not known yet leads
+-- to 0 until it is led on: backpatching, as in Aho, Sethi and Ullman, "Compilers" (1986).
 use Rattle.std.specs.Prelude.{ℕ, suc, ◌+◌, pos, List, [], ◌∷◌, ◌++◌, length, map, set, Option, Some, None, Bool}
 use Rattle.sc_isa.specs.declared.op.Instr.{Instr}
 use Rattle.sc_isa.specs.declared.op.Op.{Op}

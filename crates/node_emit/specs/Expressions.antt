@@ -1,6 +1,6 @@
--- The code of expressions. k is the number of the first point, s says how many sites come before, and pc is the number of the
--- first instruction. Each point's run is its waits and its instructions; constants, the copy of an update's pointer and
--- jumps stand outside of the runs.
+-- The code of expressions. k is the number of the first point, s says how many sites come before, and pc is the number
+-- of the first instruction. Each point's run is its waits and its instructions; constants, the copy of an update's
+-- pointer and jumps stand outside of the runs.
 use Rattle.std.specs.Prelude.{ℕ, suc, ◌+◌, pos, List, [], ◌∷◌, ◌++◌, Option, Some, None}
 use Rattle.sc_isa.specs.declared.op.Instr.{Instr}
 use Rattle.sc_isa.specs.declared.op.Op.TheVariants.{Push, Dup, Jump, Read}

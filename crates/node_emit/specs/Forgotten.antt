@@ -1,5 +1,5 @@
--- Marks and oracles leave the two runs as they are: without its marks a code's run is the code's run, and each run of a source
--- that ends is told by some oracle.
+-- Marks and oracles leave the two runs as they are: without its marks a code's run is the code's run, and each run of
+-- a source that ends is told by some oracle.
 use Rattle.std.specs.Prelude.{◌≡◌, ℕ, List, [], ◌∷◌, ◌++◌, map, Option, Some, None, true, if◌then◌else◌}
 use Rattle.resumption.specs.Resumption.{Asks, Makes, Says, Stops, Ends, run_of}
 use Rattle.resumption.specs.Forgetting.{forget}
@@ -40,7 +40,8 @@ answers_told oracle t (Makes (source.Came point) rest) = answers_told oracle t r
 answers_told oracle t (Makes (Requested request) rest) = answers_told oracle (told_after t request) rest
 answers_told oracle t (Asks (Requested request) fits go) =
     if fits (answer_by oracle t request)
-    then answer_by oracle t request ∷ answers_told oracle (told_after t request) (go (answer_by oracle t request)) else []
+    then answer_by oracle t request ∷ answers_told oracle (told_after t request)
+    (go (answer_by oracle t request)) else []
 answers_told oracle t (Says text rest) = answers_told oracle t rest
 answers_told oracle t _ = []
 

@@ -1,5 +1,5 @@
--- The code theorem, as of a compiler in Leroy (2009): for each plan that waits in time emitted code is sound, carries the flow
--- and the plan, and does what its source does, point for point.
+-- The code theorem, as of a compiler in Leroy (2009): for each plan that waits in time emitted code is sound, carries
+-- the flow and the plan, and does what its source does, point for point.
 use Rattle.std.specs.Prelude.{◌≡◌, ◌≢◌, ◌⊎◌, ℕ, ◌+◌, ◌<◌, ◌≤◌, ◌==◌, ◌||◌, List, [], ◌∷◌, ◌++◌, Option, Some, None, Bool, true, false, slice_get}
 use Rattle.std.specs.List.{list_any}
 use Rattle.resumption.specs.Resumption.{RunEnd, Short, RunOf}
@@ -43,13 +43,15 @@ is_first_from k (f ∷ more) t = (t == k) || is_first_from (k + size_of f.body +
 abbrev pub is_empty : Program → (point : ℕ) → Bool
 is_empty program t = (t == 0) || is_first_from 1 program.functions t
 
--- What code does on a node under a budget, beside what its source does. Both under the same oracle; where a value does not
--- fit, the source's story stops at the read, and the code's at the wait.
+-- What code does on a node under a budget, beside what its source does. Both under the same oracle; where a value does
+-- not fit, the source's story stops at the read, and the code's at the wait.
 pub record DoesAsSource (told : Oracle → Story) (played : Oracle → (many : ℕ) → Story) : Type 0 where
   -- where the source's story has an end, the code's is the same, with enough instructions and with any more
-  pub whole : (oracle : Oracle) → (told oracle).end ≢ Short → (enough : ℕ) × ((many : ℕ) → enough ≤ many → played oracle many ≡ told oracle)
+  pub whole : (oracle : Oracle) → (told oracle).end ≢ Short → (enough : ℕ)
+      × ((many : ℕ) → enough ≤ many → played oracle many ≡ told oracle)
   -- with fewer it begins the source's
-  pub begins : (oracle : Oracle) (many : ℕ) → (told oracle).end ≢ Short → IsBegun (played oracle many) (told oracle)
+  pub begins : (oracle : Oracle) (many : ℕ) → (told oracle).end ≢ Short →
+      IsBegun (played oracle many) (told oracle)
   -- and both agree as far as both go
   pub agree : (oracle : Oracle) (many : ℕ) → Agree (played oracle many).events (told oracle).events
   pub texts_agree : (oracle : Oracle) (many : ℕ) → Agree (played oracle many).text (told oracle).text
@@ -58,13 +60,16 @@ pub record DoesAsSource (told : Oracle → Story) (played : Oracle → (many : �
 abbrev pub Reaches : (told : Oracle → Story) → (played : Oracle → (many : ℕ) → Story) → Type 0
 Reaches told played =
     (oracle : Oracle) → (enough : ℕ) × ((many : ℕ) → enough ≤ many
-    → IsFront (told oracle).events (played oracle many).events × IsFront (told oracle).text (played oracle many).text)
+    → IsFront (told oracle).events (played oracle many).events
+    × IsFront (told oracle).text (played oracle many).text)
 
 abbrev pub told_of : Arrangement → Program → (node budget : ℕ) → Oracle → Story
 told_of layout program node budget oracle =
-    tells oracle (is_empty program) told_at_first (pointed (record { layout = layout; node = node; program = program }) budget)
+    tells oracle (is_empty program) told_at_first
+    (pointed (record { layout = layout; node = node; program = program }) budget)
 
-abbrev pub played_of : Arrangement → Program → Plan → Code → List Piece → (between : ℕ → ℕ → List ℕ) → (node budget : ℕ) → Oracle → (many : ℕ) → Story
+abbrev pub played_of : Arrangement → Program → Plan → Code → List Piece →
+    (between : ℕ → ℕ → List ℕ) → (node budget : ℕ) → Oracle → (many : ℕ) → Story
 played_of layout program plan code pieces between node budget oracle many =
     plays oracle (is_empty program) at_first (code_points code layout plan pieces between node budget many)
 
@@ -73,9 +78,11 @@ pub record IsEmitted (layout : Arrangement) (program : Program) (plan : Plan) (c
   pub sound : IsSound code layout
   pub carries : Carries code layout (flow_of layout.nodes program) plan
   pub does : (node budget : ℕ) → node < layout.nodes
-      → DoesAsSource (told_of layout program node budget) (played_of layout program plan code carries.pieces carries.between node budget)
+      → DoesAsSource (told_of layout program node budget)
+      (played_of layout program plan code carries.pieces carries.between node budget)
   pub reaches : (node budget : ℕ) → node < layout.nodes
-      → Reaches (told_of layout program node budget) (played_of layout program plan code carries.pieces carries.between node budget)
+      → Reaches (told_of layout program node budget)
+      (played_of layout program plan code carries.pieces carries.between node budget)
 
 -- the node begins in the function with the number that the source says
 abbrev pub BeginsInMain : Program → Code → Type 0

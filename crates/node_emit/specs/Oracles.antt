@@ -1,6 +1,6 @@
--- What code and a source do under an oracle, as in Leroy, "Formal verification of a realistic compiler" (2009). It holds the
--- value of each access of the node that reads, and says which barriers the node passes. Both show the same things: the points
--- that are not empty, the requests without lines, the bytes and the end.
+-- What code and a source do under an oracle, as in Leroy, "Formal verification of a realistic compiler" (2009). It
+-- holds the value of each access of the node that reads, and says which barriers the node passes. Both show the same
+-- things: the points that are not empty, the requests without lines, the bytes and the end.
 use Rattle.std.specs.Prelude.{ℕ, suc, List, [], ◌∷◌, ◌++◌, map, filter, Bool, false, not, ◌==◌, if◌then◌else◌}
 use Rattle.resumption.specs.Resumption.{Asks, Makes, Says, Stops, RunEnd, Ends, Short, RunOf, after_event, after_text}
 use Rattle.sc_base.specs.declared.value.End.{End}
@@ -92,7 +92,8 @@ plays oracle empty p (Makes (Asked (Arrive stores)) rest) =
     after_event (requests (barrier_of stores 0)) (plays oracle empty p rest)
 plays oracle empty p (Asks (Asked (Wait counter)) fits go) =
     after_wait counter
-    (if fits (landing oracle counter p) then plays oracle empty (waited counter p) (go (landing oracle counter p)) else nothing_more)
+    (if fits (landing oracle counter p) then plays oracle empty (waited counter p) (go (landing oracle counter p))
+    else nothing_more)
 plays oracle empty p (Asks (Asked Pass) fits go) =
     if fits (passing oracle p)
     then plays oracle empty (record p { barriers = suc p.barriers }) (go (passing oracle p)) else nothing_more
@@ -134,7 +135,8 @@ tells oracle empty t (Makes (Requested request) rest) =
     after_event (requests (unlined request)) (tells oracle empty (told_after t request) rest)
 tells oracle empty t (Asks (Requested request) fits go) =
     after_event (requests (unlined request))
-    (if fits (answer_by oracle t request) then tells oracle empty (told_after t request) (go (answer_by oracle t request)) else nothing_more)
+    (if fits (answer_by oracle t request) then tells oracle empty (told_after t request)
+    (go (answer_by oracle t request)) else nothing_more)
 tells oracle empty t (Says text rest) = after_text text (tells oracle empty t rest)
 tells oracle empty t (Stops (Finishes end)) = over end
 tells oracle empty t _ = nothing_more

@@ -1,5 +1,5 @@
--- What code asks, with a mark where the run of a point is entered: the points whose runs it enters, and between two of them
--- the points with empty runs.
+-- What code asks, with a mark where the run of a point is entered: the points whose runs it enters, and between two of
+-- them the points with empty runs.
 use Rattle.std.specs.Prelude.{ℕ, zero, suc, List, [], ◌∷◌, ◌++◌, Option, Some, None, ◌==◌, if◌then◌else◌}
 use Rattle.resumption.specs.Resumption.{Doing, Asks, Makes, Says as Tells, Stops}
 use Rattle.sc_layout.specs.Layout.{Arrangement}
@@ -54,11 +54,13 @@ entered_at None = None
 entered_at (Some place) = if place.number == 0 then Some place.point else None
 
 -- between: the points with empty runs from the point `now` to the next whose run is entered
-abbrev pub marked : (between : ℕ → ℕ → List ℕ) → (now : ℕ) → Option ℕ → (ℕ → PointedAsking) → PointedAsking
+abbrev pub marked : (between : ℕ → ℕ → List ℕ) → (now : ℕ) → Option ℕ →
+    (ℕ → PointedAsking) → PointedAsking
 marked between now None go = go now
 marked between now (Some t) go = come_all (between now t ++ t ∷ []) (go t)
 
-module _ (code : Code) (layout : Arrangement) (plan : Plan) (pieces : List Piece) (between : ℕ → ℕ → List ℕ) (node : ℕ) where
+module _ (code : Code) (layout : Arrangement) (plan : Plan) (pieces : List Piece) (between : ℕ → ℕ → List ℕ)
+    (node : ℕ) where
   -- what the code asks from a state on by so many instructions, where the node is at the point `now`
   abbrev pub points_from : ℕ → (now : ℕ) → State → PointedAsking
   points_from zero now s = Stops UsedUp

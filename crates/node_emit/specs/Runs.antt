@@ -1,5 +1,6 @@
--- The runs of single points: the waits that a plan puts before a step, and the step's instructions. Waits stand where they
--- are first demanded, after Krishnamurthy and Yelick, "Optimizing parallel programs with explicit synchronization" (1995).
+-- The runs of single points: the waits that a plan puts before a step, and the step's instructions. Waits stand where
+-- they are first demanded, after Krishnamurthy and Yelick, "Optimizing parallel programs with explicit
+-- synchronization" (1995).
 use Rattle.std.specs.Prelude.{ℕ, ◌+◌, ◌==◌, Bool, true, false, List, [], ◌∷◌, ◌++◌, length, map}
 use Rattle.std.specs.List.{list_any}
 use Rattle.sc_isa.specs.declared.op.Instr.{Instr}

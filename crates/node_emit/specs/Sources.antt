@@ -50,4 +50,5 @@ pub record IsFirstOver (program : Program) (count : ℕ) : Type 0 where
   pub is_there : slice_get program.functions number ≡ Some over
   pub is_over : LIMITS.locals < locals_of over
   pub count_is : count ≡ locals_of over
-  pub before : (n : ℕ) (f : Function) → n < number → slice_get program.functions n ≡ Some f → (LIMITS.locals < locals_of f) → ⊥
+  pub before : (n : ℕ) (f : Function) → n < number → slice_get program.functions n ≡ Some f →
+      (LIMITS.locals < locals_of f) → ⊥

@@ -1,5 +1,5 @@
--- Code as the runs of the points of a flow, one after another, with what stands before, between and in them: basic steps
--- with their waits, as Krishnamurthy and Yelick (1995) place them.
+-- Code as the runs of the points of a flow, one after another, with what stands before, between and in them: basic
+-- steps with their waits, as Krishnamurthy and Yelick (1995) place them.
 use Rattle.std.specs.Prelude.{◌≡◌, ◌≢◌, ◌⊎◌, ℕ, ◌+◌, List, [], ◌∷◌, ◌++◌, length, map, slice_get, Option, Some, None, Bool, true, false, not, ◌||◌, All}
 use Rattle.sc_isa.specs.declared.code.Code.{Code}
 use Rattle.sc_isa.specs.declared.op.Op.{Op}
@@ -53,7 +53,8 @@ abbrev pub IsAccessOp : Plan → Point → (number : ℕ) → SiteKind → (fill
 IsAccessOp plan p number site.Read None o = o ≡ op.Read number
 IsAccessOp plan p number site.Read (Some local) o = o ≡ op.Fill number local
 IsAccessOp plan p number site.Write fills o =
-    ((o ≡ op.Store number) × (goes_one_way plan number ≡ true)) ⊎ ((o ≡ op.Write number) × (goes_one_way plan number ≡ false))
+    ((o ≡ op.Store number) × (goes_one_way plan number ≡ true))
+    ⊎ ((o ≡ op.Write number) × (goes_one_way plan number ≡ false))
 IsAccessOp plan p number site.Get fills o = (local : ℕ) × (p.writes ≡ Some local) × (o ≡ op.Get number local)
 IsAccessOp plan p number site.Put fills o = o ≡ op.Put number
 IsAccessOp plan p number site.Store fills o = o ≡ op.Send number
@@ -92,9 +93,11 @@ IsOutsidePiece (Outside o) = is_outside o ≡ true
 IsOutsidePiece _ = Unit {0}
 
 -- the code is spelled by these pieces, which are the runs of the points in order, and what stands outside
-pub record IsSpelled (code : Code) (graph : Graph) (plan : Plan) (pieces : List Piece) (runs : List (List Op)) : Type 0 where
+pub record IsSpelled (code : Code) (graph : Graph) (plan : Plan) (pieces : List Piece)
+    (runs : List (List Op)) : Type 0 where
   pub spells : map (λ i. i.op) code.instrs ≡ spelled plan pieces
   pub others : All IsOutsidePiece pieces
   pub ordered : of_points pieces ≡ in_order 0 runs
   pub count : length runs ≡ length graph.points
-  pub right : (t : ℕ) (p : Point) (run : List Op) → slice_get graph.points t ≡ Some p → slice_get runs t ≡ Some run → IsRunFor graph plan t p p.kind run
+  pub right : (t : ℕ) (p : Point) (run : List Op) → slice_get graph.points t ≡ Some p →
+      slice_get runs t ≡ Some run → IsRunFor graph plan t p p.kind run

@@ -19,8 +19,10 @@ stands_from plan number [] = []
 stands_from plan number (Outside o ∷ pieces) = None ∷ stands_from plan number pieces
 stands_from plan number (Opens t o ∷ pieces) =
     waits_from t 0 (waits_at plan t)
-    ++ Some (record { point = t; number = length (waits_at plan t) }) ∷ stands_from plan (length (waits_at plan t) + 1) pieces
-stands_from plan number (Within t o ∷ pieces) = Some (record { point = t; number = number }) ∷ stands_from plan (number + 1) pieces
+    ++ Some (record { point = t; number = length (waits_at plan t) }) ∷
+    stands_from plan (length (waits_at plan t) + 1) pieces
+stands_from plan number (Within t o ∷ pieces) =
+    Some (record { point = t; number = number }) ∷ stands_from plan (number + 1) pieces
 
 abbrev pub flat : Option (Option Stands) → Option Stands
 flat None = None

@@ -1,5 +1,5 @@
--- The code of statements. k is the number of the first point, s says how many sites come before, and pc is the number of the
--- first instruction; `break` leads to `out`, and `continue` to `again`.
+-- The code of statements. k is the number of the first point, s says how many sites come before, and pc is the number
+-- of the first instruction; `break` leads to `out`, and `continue` to `again`.
 use Rattle.std.specs.Prelude.{ℕ, suc, ◌+◌, List, [], ◌∷◌, ◌++◌}
 use Rattle.sc_isa.specs.declared.op.Instr.{Instr}
 use Rattle.sc_isa.specs.declared.op.Op.TheVariants.{Jump, Turn, Ret}
@@ -39,6 +39,7 @@ module _ (plan : Plan) where
       let at_body = pc + width_in plan before k + run_width plan t 1 in
       let at_after = at_body + width_in plan body (t + 1) in
       let end = at_after + width_in plan after u + 1 in
-      code_in before k s end again pc ++ run plan t 0 (Turn ∷ []) ++ code_in body (t + 1) s_body end at_after at_body ++
+      code_in before k s end again pc ++ run plan t 0 (Turn ∷ [])
+      ++ code_in body (t + 1) s_body end at_after at_body ++
       code_in after u (s_body + accesses_in body) end again at_after ++ outside (Jump pc) ∷ []
   code_in (return e line) k s out again pc = code plan e k s pc ++ run plan (k + size e) line (Ret ∷ [])

@@ -1,5 +1,5 @@
--- Code walks along the edges of a flow and does the waits of a plan: at each point first its waits, and then at most one
--- ask of its own. After Krishnamurthy and Yelick (1995), who place the waits.
+-- Code walks along the edges of a flow and does the waits of a plan: at each point first its waits, and then at most
+-- one ask of its own. After Krishnamurthy and Yelick (1995), who place the waits.
 use Rattle.std.specs.Prelude.{◌≡◌, ◌⊎◌, ℕ, List, [], ◌∷◌, Some, Bool, true, false}
 use Rattle.resumption.specs.Resumption.{Asks, Makes, Says, Stops}
 use Rattle.sc_base.specs.declared.value.CopyMode.TheVariants.{Blocking, Split, OneWay}
@@ -27,7 +27,8 @@ barrier_kind false = point.Barrier
 abbrev pub AccessFor : Plan → (number : ℕ) → SiteKind → Access → Type 0
 AccessFor plan number site.Read (access.Read place track) = track ≡ Counter number
 AccessFor plan number site.Write (access.Write place value track) =
-    ((track ≡ Covered) × (goes_one_way plan number ≡ true)) ⊎ ((track ≡ Counter number) × (goes_one_way plan number ≡ false))
+    ((track ≡ Covered) × (goes_one_way plan number ≡ true))
+    ⊎ ((track ≡ Counter number) × (goes_one_way plan number ≡ false))
 AccessFor plan number site.Get (access.Read place track) = track ≡ Counter 0
 AccessFor plan number site.Put (access.Write place value track) = track ≡ Counter 0
 AccessFor plan number site.Store (access.Write place value track) = track ≡ Store
@@ -57,8 +58,8 @@ abbrev pub own_after : List ℕ → Bool → Bool
 own_after [] own = false
 own_after (c ∷ cs) own = own
 
--- At the point t the node does the waits that are left, then what is its own, if that may still come, and then goes along
--- an edge. A barrier is not left without an arrival. All of this for any answers that fit.
+-- At the point t the node does the waits that are left, then what is its own, if that may still come, and then goes
+-- along an edge. A barrier is not left without an arrival. All of this for any answers that fit.
 unfoldable pub Walks : Graph → Plan → (t : ℕ) → (left : List ℕ) → (own : Bool) → PointedAsking → Type 0
 Walks graph plan t left own (Makes (Came u) rest) =
     (left ≡ []) × Goes graph t u × (is_barrier (kind_at graph t) ≡ true → own ≡ false)
@@ -70,7 +71,8 @@ Walks graph plan t left own (Makes (Asked (Issue access)) rest) =
     (left ≡ []) × (own ≡ true) × AccessAt graph plan t access × Walks graph plan t [] false rest
 Walks graph plan t left own (Makes (Asked (Arrive stores)) rest) =
     (left ≡ []) × (own ≡ true) × (kind_at graph t ≡ barrier_kind stores) × Walks graph plan t [] false rest
-Walks graph plan t left own (Asks (Asked Pass) fits go) = (answer : _) → fits answer ≡ true → Walks graph plan t left own (go answer)
+Walks graph plan t left own (Asks (Asked Pass) fits go) =
+    (answer : _) → fits answer ≡ true → Walks graph plan t left own (go answer)
 Walks graph plan t left own (Says text rest) = Walks graph plan t left own rest
 Walks graph plan t left own (Stops halt) = Unit {0}
 Walks graph plan t left own _ = ⊥

@@ -13,7 +13,8 @@ use Rattle.node_emit.specs.Sources.{function_code, locals_of, IsFirstOver}
 
 -- no function has more locals than the limit
 abbrev pub AreWithin : Program → Type 0
-AreWithin program = (n : ℕ) (f : Function) → slice_get program.functions n ≡ Some f → locals_of f ≤ LIMITS.locals
+AreWithin program = (n : ℕ) (f : Function) → slice_get program.functions n ≡ Some f →
+    locals_of f ≤ LIMITS.locals
 
 -- the source has no code for this reason
 abbrev pub IsRefused : Program → EmitError → Type 0

@@ -48,7 +48,8 @@ module _ (plan : Plan) where
       widths arguments k + run_width plan (k + sizes arguments) (action_width action)
   width_in (choose of_pointer test on off) k =
       let t = k + size test in
-      width test k + run_width plan t (test_width of_pointer) + width_in on (t + 1) + 1 + width_in off (t + 1 + size_of on)
+      width test k + run_width plan t (test_width of_pointer) + width_in on (t + 1) + 1 + width_in off
+      (t + 1 + size_of on)
   width_in (loop mine before body after) k =
       let t = k + size_of before in
       width_in before k + run_width plan t 1 + width_in body (t + 1) + width_in after (t + 1 + size_of body) + 1

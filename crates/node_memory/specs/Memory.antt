@@ -35,4 +35,5 @@ Holds memory map = (place : Place) → IsPlace memory.layout place → cell memo
 
 -- each place of the layout has a cell, whose value fits it
 abbrev pub AllFit : Memory → Type 0
-AllFit memory = (place : Place) → IsPlace memory.layout place → IsSomeAnd (cell memory place) (λ value. Fits memory.layout place value)
+AllFit memory = (place : Place) → IsPlace memory.layout place →
+    IsSomeAnd (cell memory place) (λ value. Fits memory.layout place value)

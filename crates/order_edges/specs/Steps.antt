@@ -1,4 +1,5 @@
--- The requests of a node in a journal, as far as the order asks for them. A past is a list of entries, the newest first.
+-- The requests of a node in a journal, as far as the order asks for them. A past is a list of entries, the newest
+-- first.
 use Rattle.std.specs.Prelude.{ℕ, ◌+◌, List, [], ◌∷◌, ◌++◌, Option, Some, None, Bool, false, ◌==◌, ◌&&◌, if◌then◌else◌}
 use Rattle.sc_isa.specs.declared.access.Access.TheVariants.{Read, Write, Copy}
 use Rattle.sc_isa.specs.declared.access.Track.{Track}

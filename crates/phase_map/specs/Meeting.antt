@@ -11,7 +11,8 @@ use Rattle.phase_map.specs.Uneven.{UnevenPoint}
 -- from each uneven point at most one barrier is reached on a clear way
 abbrev pub Aligned : Graph → Type 0
 Aligned graph =
-    (u a b : ℕ) → UnevenPoint graph u → is_barrier (kind_at graph a) ≡ true → is_barrier (kind_at graph b) ≡ true
+    (u a b : ℕ) → UnevenPoint graph u → is_barrier (kind_at graph a) ≡ true
+    → is_barrier (kind_at graph b) ≡ true
     → Clear graph u a → Clear graph u b → a ≡ b
 
 -- where a phase begins

@@ -67,7 +67,8 @@ pub record IsNoted (p : Point) (parted : Bool) (old new : Locals) (gains : Bool)
   pub none : gains ≡ false → (new ≡ old) ×
       ((x : ℕ) → p.writes ≡ Some x → x ≢ NODE_MARK → SetsUneven old p parted → MayDiffer old p.function x)
   pub some : gains ≡ true → (new.main ≡ old.main) × (new.called ≡ old.called) ×
-      ((x : ℕ) × (p.writes ≡ Some x) × (x ≢ NODE_MARK) × SetsUneven old p parted × (MayDiffer old p.function x → ⊥)
+      ((x : ℕ) × (p.writes ≡ Some x) × (x ≢ NODE_MARK) × SetsUneven old p parted
+      × (MayDiffer old p.function x → ⊥)
       × IsWith 0 x old.noted new.noted)
 
 -- each of the first n points that sets different values sets a local that is known to differ

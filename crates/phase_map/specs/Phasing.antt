@@ -30,7 +30,8 @@ pub record ArePlaces (graph : Graph) (n : ℕ) (places : List ℕ) : Type 0 wher
 -- a phase that begins at one of the first n points has both sites
 abbrev pub ShareBelow : Graph → (n : ℕ) → (a b : ℕ) → Type 0
 ShareBelow graph n a b =
-    (s t u : ℕ) × (s < n) × BeginsPhase graph s × IsAt graph a t × IsAt graph b u × Clear graph s t × Clear graph s u
+    (s t u : ℕ) × (s < n) × BeginsPhase graph s × IsAt graph a t × IsAt graph b u × Clear graph s t
+    × Clear graph s u
 
 -- the sites meet by the phases that begin at the first n points
 abbrev pub IsMet : Graph → (n : ℕ) → (a b : ℕ) → Type 0

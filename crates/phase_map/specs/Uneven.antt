@@ -30,7 +30,8 @@ mutual
     returns : (t : ℕ) → Branches graph t → kind_at graph t ≡ Return → UnevenPoint graph t
     reads_mark : (t : ℕ) (p : Point) → Branches graph t → IsPoint graph t p → Contains p.reads NODE_MARK
         → UnevenPoint graph t
-    reads_local : (t x : ℕ) (p : Point) → Branches graph t → IsPoint graph t p → Contains p.reads x → x ≢ NODE_MARK
+    reads_local : (t x : ℕ) (p : Point) → Branches graph t → IsPoint graph t p → Contains p.reads x
+        → x ≢ NODE_MARK
         → UnevenLocal graph p.function x → UnevenPoint graph t
 
   -- the local of the function may have different values on different nodes
@@ -39,7 +40,8 @@ mutual
     main_called : (f x : ℕ) → MainIsCalled graph → UnevenLocal graph f x
     set_by_mark : (w x : ℕ) (p : Point) → IsPoint graph w p → p.writes ≡ Some x → Contains p.reads NODE_MARK
         → UnevenLocal graph p.function x
-    set_by_local : (w x y : ℕ) (p : Point) → IsPoint graph w p → p.writes ≡ Some x → Contains p.reads y → y ≢ NODE_MARK
+    set_by_local : (w x y : ℕ) (p : Point) → IsPoint graph w p → p.writes ≡ Some x → Contains p.reads y
+        → y ≢ NODE_MARK
         → UnevenLocal graph p.function y → UnevenLocal graph p.function x
     set_behind : (u w x : ℕ) (p : Point) → UnevenPoint graph u → Clear graph u w → IsPoint graph w p
         → p.writes ≡ Some x → UnevenLocal graph p.function x

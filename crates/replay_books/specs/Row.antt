@@ -1,5 +1,6 @@
--- What the tables keep of one node: its requests, how often it arrived at a barrier, how it ended, and which transfers it
--- waits for, as the split accesses and stores of "Introduction to Split-C" (Culler and others, 1995) are waited for.
+-- What the tables keep of one node: its requests, how often it arrived at a barrier, how it ended, and which transfers
+-- it waits for, as the split accesses and stores of "Introduction to Split-C" (Culler and others, 1995) are waited
+-- for.
 use Rattle.std.specs.Prelude.{ℕ, ◌+◌, ◌-◌, List, [], ◌∷◌, ◌++◌, length, map, slice_get, slice_set, pos}
 use Rattle.std.specs.Prelude.{Option, None, is_none, Bool, false, not, ◌&&◌, ◌==◌, nat_le, if◌then◌else◌}
 use Rattle.std.specs.Option.{option_map_or, unwrap_or}
@@ -65,7 +66,8 @@ with_request row request = record row {
 }
 
 -- the part of the request with this number may occur
-abbrev pub may_occur_at : RowBook → (number cell : ℕ) → (wrote : Bool) → Place → (value shown : Value) → Bool
+abbrev pub may_occur_at : RowBook → (number cell : ℕ) → (wrote : Bool) → Place →
+    (value shown : Value) → Bool
 may_occur_at row number cell wrote place value shown =
     option_map_or (λ e. may_occur_in e cell wrote place value shown) (slice_get row.entries number) false
 

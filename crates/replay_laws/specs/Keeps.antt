@@ -30,7 +30,8 @@ pub record KeepsRow (node : ℕ) (past : List SourceEvent) (row : RowBook) : Typ
   pub made : length row.entries ≡ made node past
   pub arrived : row.arrived ≡ arrivals node past
   pub ended : row.ended ≡ ended node past
-  pub entries : (number : ℕ) (e : EntryBook) → slice_get row.entries number ≡ Some e → KeepsEntry node number past e
+  pub entries : (number : ℕ) (e : EntryBook) → slice_get row.entries number ≡ Some e →
+      KeepsEntry node number past e
   -- no part has occurred of what was not requested
   pub none_beyond : (number cell : ℕ) (wrote : Bool) → length row.entries ≤ number
       → part_value node number cell wrote (effects past) ≡ None

@@ -33,7 +33,8 @@ module _ (processes : Processes) (past : List SourceEvent) (t : TablesBook) wher
         → Decides (may_occur_in_tables t node number cell wrote place value (shown processes.start place past))
         (EffectAllowed processes past node number cell wrote place value)
     pub lands : (node : ℕ) → node < processes.nodes
-        → landing (row_at t node) ≡ got node (effects past) (gets_among (requests_of (row_at t node)) (issued_since node past))
+        → landing (row_at t node) ≡ got node (effects past)
+        (gets_among (requests_of (row_at t node)) (issued_since node past))
     pub releases : (number : ℕ) → Decides (may_release_in t number) (ReleaseAllowed processes past number)
     pub stands : (node : ℕ) → Decides (stands_at t node) (Stands processes.nodes past node)
     pub completes : Decides (is_complete_in t) (Complete processes past)
@@ -51,7 +52,8 @@ pub record GoOn (nodes : ℕ) (past : List SourceEvent) (t : TablesBook) : Type 
       → Keeps nodes (Issue node (made node past) ∷ past) (with_made t node request)
   pub occurred : (node number cell : ℕ) (wrote : Bool) (place : Place) (value shown : Value) → node < nodes
       → may_occur_in_tables t node number cell wrote place value shown ≡ true
-      → Keeps nodes (Effect node number cell wrote place value ∷ past) (with_occurred t node number cell wrote value)
+      → Keeps nodes (Effect node number cell wrote place value ∷ past)
+      (with_occurred t node number cell wrote value)
   pub synced : (node : ℕ) (request : Request) → node < nodes → is_issued request ≡ false
       → Keeps nodes (Sync node (made node past) ∷ past) (with_sync t node request)
   pub arrived : (node : ℕ) (request : Request) (stores : Bool) → node < nodes → is_issued request ≡ false

@@ -8,7 +8,8 @@ use Rattle.sc_meaning.specs.declared.request.Request.{Request}
 use Rattle.sc_meaning.specs.Asking.{Answer, Halt, SourceDoing}
 use Rattle.sc_replay.specs.Courses.{HasDone}
 use Rattle.sc_replay.proofs.Following.{courses_go_on}
-use Rattle.replay_stages.specs.Courses.{Course, WaitsForAnswers, Followed, CoursesAreFollowed, stop_of}
+use Rattle.replay_stages.specs.Courses.{Course, Followed, CoursesAreFollowed, stop_of}
+use Rattle.sc_meaning.specs.Answering.{WaitsForAnswers}
 
 waits_past : (rest : SourceDoing) → WaitsForAnswers rest → WaitsForAnswers (past_text rest)
 unfolding WaitsForAnswers

@@ -29,7 +29,8 @@ use Rattle.replay_laws.specs.Laws.{Answers, GoOn}
 use Rattle.replay_laws.proofs.Lists.{get_front}
 use Rattle.replay_laws.proofs.Going.{books_go_on}
 use Rattle.replay_laws.proofs.Others.{when, of_do, of_issue, of_effect, of_sync, of_arrive, of_end}
-use Rattle.replay_stages.specs.Courses.{Course, is_answered, stop_of, IsStuck}
+use Rattle.replay_stages.specs.Courses.{Course, stop_of, IsStuck}
+use Rattle.sc_meaning.specs.Answering.{is_answered}
 use Rattle.replay_stages.specs.Stage.{Front, NodeAt, Stage, IsDoomed}
 use Rattle.replay_stages.specs.Laws.{GoesOn, StagesGoOn, next_in, is_read_now, ends_now, may, with_front, written_to, shows_after, Stood, StoodPast}
 use Rattle.replay_stages.proofs.Courses.{followed}

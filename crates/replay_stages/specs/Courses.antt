@@ -1,28 +1,15 @@
--- A node that is followed by its requests and answers, and waits for an answer exactly after the requests of
--- "Introduction to Split-C" (Culler and others, 1995) that are answered: reads that block, syncs and barriers.
+-- A node that is followed by its requests and answers, with the requests of "Introduction to Split-C" (Culler and
+-- others, 1995): what it has done under them, what it does next, and how it stops.
 use Rattle.std.specs.Prelude.{◌≡◌, ℕ, List, [], ◌∷◌, ◌++◌, length, slice_get, Option, Some, None, Bool, true, false}
 use Rattle.resumption.specs.Resumption.{Asks, Makes, Says, Stops, Ends, Short, run_of, next_event, next_text, past_text}
 use Rattle.sc_meaning.specs.declared.request.Request.{Request}
-use Rattle.sc_meaning.specs.declared.request.Request.TheVariants.{Read, Sync, Barrier, AllStoreSync}
+use Rattle.sc_meaning.specs.Answering.{WaitsForAnswers}
 use Rattle.sc_meaning.specs.Asking.{Answer, Halt, SourceDoing}
 use Rattle.sc_replay.specs.Courses.{HasDone}
 
-abbrev pub is_answered : Request → Bool
-is_answered (Read place line) = true
-is_answered (Sync line) = true
-is_answered (Barrier line) = true
-is_answered (AllStoreSync line) = true
-is_answered _ = false
-
--- the node waits for an answer exactly after the requests that are answered
-unfoldable pub WaitsForAnswers : SourceDoing → Type 0
-WaitsForAnswers (Asks request fits go) = (is_answered request ≡ true) × ((answer : _) → WaitsForAnswers (go answer))
-WaitsForAnswers (Makes request rest) = (is_answered request ≡ false) × WaitsForAnswers rest
-WaitsForAnswers (Says text rest) = WaitsForAnswers rest
-WaitsForAnswers (Stops halt) = Unit {0}
-
 -- under these answers the node made these requests and said this text, and from there on does the rest
-pub record Course (start : SourceDoing) (given : List Answer) (requests : List Request) (text : List ℕ) (rest : SourceDoing) : Type 0 where
+pub record Course (start : SourceDoing) (given : List Answer) (requests : List Request) (text : List ℕ)
+    (rest : SourceDoing) : Type 0 where
   pub done : HasDone start given requests text rest
   pub waits : WaitsForAnswers rest
 
@@ -44,16 +31,20 @@ module _ (start : SourceDoing) (given : List Answer) (requests : List Request) (
     -- the run's next request, and its end if there is none
     pub next : (rest : SourceDoing) → Course start given requests text rest
         → slice_get (run_of start given).events (length requests) ≡ next_event rest
-    pub some_next : (rest : SourceDoing) (r : Request) → Course start given requests text rest → next_event rest ≡ Some r
+    pub some_next : (rest : SourceDoing) (r : Request) → Course start given requests text rest
+        → next_event rest ≡ Some r
         → (more : List Request) × ((run_of start given).events ≡ requests ++ r ∷ more)
-    pub stopped : (rest : SourceDoing) (halt : Halt) → Course start given requests text rest → stop_of rest ≡ Some halt
+    pub stopped : (rest : SourceDoing) (halt : Halt) → Course start given requests text rest
+        → stop_of rest ≡ Some halt
         → run_of start given ≡ record { events = requests; text = text ++ next_text rest; end = Ends halt }
     pub passed : (r : Request) (rest : SourceDoing) → Course start given requests text (Makes r rest)
         → Course start given (requests ++ r ∷ []) text rest
-    pub answered : (r : Request) (fits : Answer → Bool) (go : Answer → SourceDoing) (answer : Answer) → fits answer ≡ true
+    pub answered : (r : Request) (fits : Answer → Bool) (go : Answer → SourceDoing) (answer : Answer)
+        → fits answer ≡ true
         → Course start given requests text (Asks r fits go)
         → Course start (given ++ answer ∷ []) (requests ++ r ∷ []) text (go answer)
-    pub stuck : (r : Request) (fits : Answer → Bool) (go : Answer → SourceDoing) (answer : Answer) → fits answer ≡ false
+    pub stuck : (r : Request) (fits : Answer → Bool) (go : Answer → SourceDoing) (answer : Answer)
+        → fits answer ≡ false
         → Course start given requests text (Asks r fits go) → IsStuck start (given ++ answer ∷ [])
 
 pub record CoursesAreFollowed : Type 0 where

@@ -9,7 +9,8 @@ use Rattle.sc_meaning.specs.Whole.{IsHistory, outcome}
 use Rattle.replay_books.specs.Tables.{TablesBook, row_at, is_complete_in}
 use Rattle.replay_stages.specs.Stage.{Front, Stage}
 
-module _ (processes : Processes) (history : List SourceEvent) (t : TablesBook) (shows : Place → Value) (fronts : ℕ → Front) where
+module _ (processes : Processes) (history : List SourceEvent) (t : TablesBook) (shows : Place → Value)
+    (fronts : ℕ → Front) where
   pub record Told : Type 0 where
     pub unfinished : is_complete_in t ≡ false → IsHistory processes history → ⊥
     pub whole : is_complete_in t ≡ true → IsHistory processes history
@@ -21,5 +22,6 @@ module _ (processes : Processes) (history : List SourceEvent) (t : TablesBook) (
 
 abbrev pub HistoriesAreTold : Type 0
 HistoriesAreTold =
-    (processes : Processes) (history : List SourceEvent) (t : TablesBook) (shows : Place → Value) (fronts : ℕ → Front)
+    (processes : Processes) (history : List SourceEvent) (t : TablesBook) (shows : Place → Value)
+    (fronts : ℕ → Front)
     → Stage processes (reverse history) t shows fronts → Told processes history t shows fronts

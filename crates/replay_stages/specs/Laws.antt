@@ -1,4 +1,5 @@
--- A stage goes on with each event that may come next and whose answer fits, and no legal and complete history with any other.
+-- A stage goes on with each event that may come next and whose answer fits, and no legal and complete history with any
+-- other.
 use Rattle.std.specs.Prelude.{◌≡◌, ℕ, ◌<◌, List, [], ◌∷◌, ◌++◌, Option, Some, None, Bool, true, false, ◌==◌, ◌&&◌, if◌then◌else◌}
 use Rattle.std.specs.Option.{option_map_or}
 use Rattle.resumption.specs.Resumption.{next_event}
@@ -61,7 +62,8 @@ written_to shows place value other = if same_place place other then value else s
 abbrev pub shows_after : (wrote : Bool) → (Place → Value) → Place → Value → Place → Value
 shows_after wrote shows place value other = if wrote then written_to shows place value other else shows other
 
-module _ (processes : Processes) (past : List SourceEvent) (t : TablesBook) (shows : Place → Value) (fronts : ℕ → Front) where
+module _ (processes : Processes) (past : List SourceEvent) (t : TablesBook) (shows : Place → Value)
+    (fronts : ℕ → Front) where
   -- the node got these answers more, and has made the requests of its row, and so it stands
   abbrev pub Stood : (node : ℕ) → (given : List Answer) → Front → Type 0
   Stood node given f =
@@ -70,7 +72,8 @@ module _ (processes : Processes) (past : List SourceEvent) (t : TablesBook) (sho
   -- so it does when it has made one request more
   abbrev pub StoodPast : (node : ℕ) → (given : List Answer) → (request : Request) → Front → Type 0
   StoodPast node given request f =
-      Course (processes.starts node) (answers processes node past ++ given) (requests_of (row_at t node) ++ request ∷ [])
+      Course (processes.starts node) (answers processes node past ++ given)
+      (requests_of (row_at t node) ++ request ∷ [])
       f.text f.rest
 
   pub record GoesOn : Type 0 where
@@ -86,18 +89,21 @@ module _ (processes : Processes) (past : List SourceEvent) (t : TablesBook) (sho
     pub read : (node number : ℕ) (place : Place) (value : Value) (r : Request) (f : Front)
         → next_in t fronts node number ≡ Some r → is_read_now shows place value r ≡ true
         → StoodPast node (Shown value ∷ []) r f
-        → Stage processes (Do node number false place value ∷ past) (with_made t node r) shows (with_front fronts node f)
+        → Stage processes (Do node number false place value ∷ past) (with_made t node r) shows
+        (with_front fronts node f)
     pub wrote : (node number : ℕ) (place : Place) (value : Value) (r : Request) (f : Front)
         → next_in t fronts node number ≡ Some r → is_write_of place value r ≡ true
         → StoodPast node [] r f
-        → Stage processes (Do node number true place value ∷ past) (with_made t node r) (written_to shows place value)
+        → Stage processes (Do node number true place value ∷ past) (with_made t node r)
+        (written_to shows place value)
         (with_front fronts node f)
     pub issued : (node number : ℕ) (r : Request) (f : Front)
         → next_in t fronts node number ≡ Some r → is_issued r ≡ true → StoodPast node [] r f
         → Stage processes (Issue node number ∷ past) (with_made t node r) shows (with_front fronts node f)
     pub occurred : (node number cell : ℕ) (wrote : Bool) (place : Place) (value : Value)
         → may_occur_in_tables t node number cell wrote place value (shows place) ≡ true
-        → Stage processes (Effect node number cell wrote place value ∷ past) (with_occurred t node number cell wrote value)
+        → Stage processes (Effect node number cell wrote place value ∷ past)
+        (with_occurred t node number cell wrote value)
         (shows_after wrote shows place value) fronts
     pub synced : (node number : ℕ) (r : Request) (f : Front)
         → next_in t fronts node number ≡ Some r → is_sync r ≡ true → split_over t node ≡ true

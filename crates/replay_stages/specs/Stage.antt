@@ -1,5 +1,6 @@
--- How far a list of events that is read has led: each event was allowed, as in Lamport's sequential consistency (1979),
--- what is kept answers for them, and each node stands where their answers have led it. A past has the newest event first.
+-- How far a list of events that is read has led: each event was allowed, as in Lamport's sequential consistency
+-- (1979), what is kept answers for them, and each node stands where their answers have led it. A past has the newest
+-- event first.
 use Rattle.std.specs.Prelude.{◌≡◌, ℕ, ◌<◌, ◌≤◌, List, [], ◌∷◌, ◌++◌, Some, None, true}
 use Rattle.resumption.specs.Resumption.{next_event}
 use Rattle.sc_base.specs.declared.value.Place.{Place}
@@ -14,7 +15,8 @@ use Rattle.replay_books.specs.Row.{RowBook}
 use Rattle.replay_books.specs.Tables.{TablesBook, row_at}
 use Rattle.replay_laws.specs.Keeps.{Keeps, requests_of}
 use Rattle.replay_laws.specs.Laws.{Stands}
-use Rattle.replay_stages.specs.Courses.{Course, is_answered}
+use Rattle.replay_stages.specs.Courses.{Course}
+use Rattle.sc_meaning.specs.Answering.{is_answered}
 
 -- what a node printed, and what it does from there on
 pub record Front : Type 0 where
@@ -39,7 +41,8 @@ module _ (processes : Processes) (node : ℕ) (past : List SourceEvent) (row : R
     pub free : (ended node past ≡ None → arrivals node past ≤ releases past) → HasMade
     pub waits : Stands processes.nodes past node → Waits
 
-pub record Stage (processes : Processes) (past : List SourceEvent) (t : TablesBook) (shows : Place → Value) (fronts : ℕ → Front) : Type 0 where
+pub record Stage (processes : Processes) (past : List SourceEvent) (t : TablesBook) (shows : Place → Value)
+    (fronts : ℕ → Front) : Type 0 where
   pub legal : Legal processes past
   pub keeps : Keeps processes.nodes past t
   pub cells : (place : Place) → shows place ≡ shown processes.start place past
@@ -47,4 +50,5 @@ pub record Stage (processes : Processes) (past : List SourceEvent) (t : TablesBo
 
 -- no legal and complete history goes on from here
 abbrev pub IsDoomed : Processes → List SourceEvent → Type 0
-IsDoomed processes past = (later : List SourceEvent) → Legal processes (later ++ past) → Complete processes (later ++ past) → ⊥
+IsDoomed processes past = (later : List SourceEvent) → Legal processes (later ++ past) →
+    Complete processes (later ++ past) → ⊥

@@ -20,7 +20,8 @@ abbrev pub object_at : List (List Value) → (object offset : ℕ) → Option Va
 object_at objects object offset = option_and_then (λ values. slice_get values offset) (slice_get objects object)
 
 abbrev pub cell_in : List (List (List Value)) → Place → Option Value
-cell_in known place = option_and_then (λ objects. object_at objects place.object place.offset) (slice_get known place.node)
+cell_in known place =
+    option_and_then (λ objects. object_at objects place.object place.offset) (slice_get known place.node)
 
 -- what was written there last
 abbrev pub stray_value : List Stray → Place → Option Value

@@ -3,7 +3,8 @@ use Rattle.std.specs.Prelude.{ℕ, List, Bool, Option, Some, None}
 use Rattle.resumption.specs.Resumption.{Doing, Asks, Makes, Says, Stops}
 
 -- the event is made where it is shown
-abbrev pub made_if : {Event Answer Stop : Type 0} → Option Event → Doing Event Answer Stop → Doing Event Answer Stop
+abbrev pub made_if : {Event Answer Stop : Type 0} → Option Event → Doing Event Answer Stop →
+    Doing Event Answer Stop
 made_if None rest = rest
 made_if (Some event) rest = Makes event rest
 

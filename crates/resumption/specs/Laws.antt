@@ -5,7 +5,8 @@ use Rattle.resumption.specs.Resumption.{Doing, RunEnd, Ends, RunOf, after_text, 
 use Rattle.resumption.specs.Forgetting.{forget, AllAsked}
 
 -- the run that goes on from where answers were followed to
-abbrev pub run_after : {Event Answer Stop : Type 0} → Followed Event Answer Stop → RunOf Event Stop → RunOf Event Stop
+abbrev pub run_after : {Event Answer Stop : Type 0} → Followed Event Answer Stop → RunOf Event Stop →
+    RunOf Event Stop
 run_after followed run = record
     { events = followed.events ++ run.events; text = followed.text ++ run.text; end = run.end }
 
@@ -18,7 +19,8 @@ pub record Extends (Event Stop : Type 0) (short long : RunOf Event Stop) : Type 
   pub stopped : (stop : Stop) → short.end ≡ Ends stop → long ≡ short
 
 -- what is shown of the events of a run
-abbrev pub shown_run : {Event Other Stop : Type 0} → (Event → Option Other) → RunOf Event Stop → RunOf Other Stop
+abbrev pub shown_run : {Event Other Stop : Type 0} → (Event → Option Other) → RunOf Event Stop →
+    RunOf Other Stop
 shown_run made run = record { events = filter_map made run.events; text = run.text; end = run.end }
 
 module _ (Event Answer Stop : Type 0) where

@@ -1,6 +1,6 @@
 -- Runs of the code of a source. A run that picks make is whole; where the code waits directly behind each access, what
--- has to come before what has no cycle, after Shasha and Snir (1988), and the source order of each whole run is one whole
--- history of the source.
+-- has to come before what has no cycle, after Shasha and Snir (1988), and the source order of each whole run is one
+-- whole history of the source.
 use Rattle.std.specs.Prelude.{◌≡◌, ◌↔◌, ℕ, ◌≤◌, List, [], reverse}
 use Rattle.effect_order.specs.Rules.{IsByRules}
 use Rattle.sc_layout.specs.Layout.{Arrangement}
@@ -96,12 +96,13 @@ pub record IsOrderedRun (layout : Arrangement) (program : Program) (code : Code)
       (sorted (processes_of layout program budget) (reverse journal)) []
       (source_order (processes_of layout program budget) journal)
 
--- So it is for each whole run of the code of a source by a plain plan, whichever moves it took and by whatever number of
--- instructions it is whole.
+-- So it is for each whole run of the code of a source by a plain plan, whichever moves it took and by whatever number
+-- of instructions it is whole.
 abbrev pub PlainRunsAreOrdered : Type 0
 PlainRunsAreOrdered =
     (layout : Arrangement) (program : Program) (plan : Plan) (code : Code) (budget many : ℕ) (journal : List Entry)
-    → IsLaidSource layout program → IsEmitted layout program plan code → IsPlainPlan (flow_of layout.nodes program) plan
+    → IsLaidSource layout program → IsEmitted layout program plan code
+    → IsPlainPlan (flow_of layout.nodes program) plan
     → IsRun (machine_of layout code budget many) journal → IsOrderedRun layout program code budget journal many
 
 -- And for the run that picks make.
@@ -109,6 +110,7 @@ abbrev pub SimulatedRunsAreOrdered : Type 0
 SimulatedRunsAreOrdered =
     (layout : Arrangement) (program : Program) (plan : Plan) (code : Code) (budget : ℕ) (picks : ℕ → ℕ)
     (journal : List Entry)
-    → IsLaidSource layout program → IsEmitted layout program plan code → IsPlainPlan (flow_of layout.nodes program) plan
+    → IsLaidSource layout program → IsEmitted layout program plan code
+    → IsPlainPlan (flow_of layout.nodes program) plan
     → IsSimulationOf layout code budget picks journal
     → FromSomeNumberOn (IsOrderedRun layout program code budget journal)

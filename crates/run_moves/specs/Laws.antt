@@ -25,8 +25,8 @@ PicksDetermineTheRun =
     (machine : Machine) (picks : ℕ → ℕ) (one other : List Entry)
     → IsSimulation machine picks one → IsSimulation machine picks other → one ≡ other
 
--- The node asks to pass exactly where it has arrived, ends as waiting exactly where its barrier is broken, and goes on at
--- every answer that it takes, as the code of a node does; at_barrier: it has arrived and not passed.
+-- The node asks to pass exactly where it has arrived, ends as waiting exactly where its barrier is broken, and goes on
+-- at every answer that it takes, as the code of a node does; at_barrier: it has arrived and not passed.
 unfoldable pub IsOrderly : (at_barrier : Bool) → NodeDoing → Type 0
 IsOrderly false (Makes (Issue access) rest) = IsOrderly false rest
 IsOrderly false (Makes (Arrive stores) rest) = IsOrderly true rest
@@ -51,11 +51,13 @@ pub data IsKnown (machine : Machine) (past : List Entry) (node : ℕ) : Type 0 w
 -- a run by picks is legal, and complete where it is known of each node what it does next
 abbrev pub SimulatedRunsAreComplete : Type 0
 SimulatedRunsAreComplete =
-    (machine : Machine) (picks : ℕ → ℕ) (journal : List Entry) → AllOrderly machine → IsSimulation machine picks journal
+    (machine : Machine) (picks : ℕ → ℕ) (journal : List Entry) → AllOrderly machine
+    → IsSimulation machine picks journal
     → ((node : ℕ) → node < machine.nodes → IsKnown machine (reverse journal) node)
     → IsLegalJournal machine journal × IsCompleteJournal machine journal
 
 -- the code of a node is orderly, whatever it is, by any number of instructions
 abbrev pub CodeIsOrderly : Type 0
 CodeIsOrderly =
-    (code : Code) (layout : Arrangement) (node budget many : ℕ) → IsOrderly false (node_asks code layout node budget many)
+    (code : Code) (layout : Arrangement) (node budget many : ℕ) →
+    IsOrderly false (node_asks code layout node budget many)

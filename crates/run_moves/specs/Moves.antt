@@ -1,5 +1,5 @@
--- The moves of a run: the next entries of its nodes, and the deliveries of the messages in flight, as a scheduler chooses
--- among them. Their order is this project's own. A past is a list of entries, the newest first.
+-- The moves of a run: the next entries of its nodes, and the deliveries of the messages in flight, as a scheduler
+-- chooses among them. Their order is this project's own. A past is a list of entries, the newest first.
 use Rattle.std.specs.Prelude.{ℕ, zero, suc, List, [], ◌∷◌, ◌++◌, length, map, Option, Some, None, Bool, true, false, ◌==◌, if◌then◌else◌}
 use Rattle.sc_base.specs.declared.value.Value.{Value}
 use Rattle.sc_base.specs.declared.value.Place.{Place}

@@ -8,7 +8,8 @@ use Rattle.run_moves.specs.Moves.{moves}
 abbrev pub IsPicked : Machine → (picks : ℕ → ℕ) → List Entry → Type 0
 IsPicked machine picks [] = Unit {0}
 IsPicked machine picks (entry ∷ past) =
-    (slice_get (moves machine past) (picks (length past) % length (moves machine past)) ≡ Some entry) × IsPicked machine picks past
+    (slice_get (moves machine past) (picks (length past) % length (moves machine past)) ≡ Some entry)
+    × IsPicked machine picks past
 
 -- the journal of the run by these picks
 pub record IsSimulation (machine : Machine) (picks : ℕ → ℕ) (journal : List Entry) : Type 0 where

@@ -107,7 +107,8 @@ nodes_lines nodes ends texts = each_from 0 nodes (λ node. node_lines node (ends
 
 -- the nodes' ends and texts by number, the memory, and whether it is shown
 abbrev pub report :
-    List Text → Arrangement → (ℕ → Option End) → (ℕ → List ℕ) → (Place → Value) → Bool → List ℕ
+    List Text → Arrangement → (ℕ → Option End) → (ℕ → List ℕ) → (Place → Value) →
+    Bool → List ℕ
 report names layout ends texts memory shows_memory =
     nodes_lines layout.nodes ends texts ++ (if shows_memory then memory_lines names layout memory else [])
 

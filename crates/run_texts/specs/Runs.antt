@@ -1,5 +1,5 @@
--- What the run of a compiled source by a seed's picks shows: the outcome of one complete history of the source, which is
--- the run's own journal put in the order of the source, after Shasha and Snir (1988).
+-- What the run of a compiled source by a seed's picks shows: the outcome of one complete history of the source, which
+-- is the run's own journal put in the order of the source, after Shasha and Snir (1988).
 use Rattle.std.specs.Prelude.{◌≡◌, ℕ, ◌≤◌, List, Bool}
 use Rattle.sc_isa.specs.declared.journal.Entry.{Entry}
 use Rattle.sc_meaning.specs.declared.event.SourceEvent.{SourceEvent}

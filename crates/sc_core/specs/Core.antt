@@ -17,7 +17,8 @@ mutual
     -- A compound assignment to the cell behind the pointer, which is evaluated once: it is read, the right side is
     -- evaluated, the two are joined and the result is written. Where the last says so, its value is the old one,
     -- taken back from what was written by that operation and 1.
-    update : (pointer : Core) → Operation → (right : Core) → (taken_back : Option Operation) → (line : ℕ) → Core
+    update : (pointer : Core) → Operation → (right : Core) → (taken_back : Option Operation) →
+        (line : ℕ) → Core
 
   -- the arguments of a step
   pub data Arguments : Type 0 where

@@ -129,7 +129,8 @@ unfoldable mutual
   found_form objects (call (named.Local x) args) line = value number_zero
   found_form objects (call (named.Object o) args) line = value number_zero
   found_form objects (convert ty e) line = value (converted (star_of e) (last_of ty.stars) (value_of objects e) line)
-  found_form objects (to_global node e) line = value (with_two does.ToGlobal (value_of objects node) (value_of objects e) line)
+  found_form objects (to_global node e) line =
+      value (with_two does.ToGlobal (value_of objects node) (value_of objects e) line)
   found_form objects (to_proc e) line = value (with_one does.ToProc (value_of objects e) line)
   found_form objects (to_local e) line = value (with_one does.ToLocal (value_of objects e) line)
   -- these have no value, and stand as whole statements
@@ -156,22 +157,27 @@ unfoldable mutual
   -- `&&` and `||`, which evaluate what they need
   pub every : List Shape → TypedExpressions → Core
   every objects no_expressions = number_one
-  every objects (expressions e more) = choice (is_pointer (star_of e)) (value_of objects e) (every objects more) number_zero
+  every objects (expressions e more) =
+      choice (is_pointer (star_of e)) (value_of objects e) (every objects more) number_zero
 
   pub any : List Shape → TypedExpressions → Core
   any objects no_expressions = number_zero
   any objects (expressions e more) = choice (is_pointer (star_of e)) (value_of objects e) number_one (any objects more)
 
   -- an object with so many indices, which takes as many more as are left
-  pub indices_found : List Shape → (o left count : ℕ) → (plain : Bool) → Arguments → (line : ℕ) → (stars : List Star) →
+  pub indices_found : List Shape → (o left count : ℕ) → (plain : Bool) → Arguments → (line : ℕ) →
+      (stars : List Star) →
       TypedTails → Found
   indices_found objects o left count plain indices line stars no_tails = object_with objects o count plain indices line
   indices_found objects o zero count plain indices line stars (tails t more) =
-      tails_found objects (tail_found objects (object_with objects o count plain indices line) stars t) (stars_behind stars t) more
+      tails_found objects (tail_found objects (object_with objects o count plain indices line) stars t)
+      (stars_behind stars t) more
   indices_found objects o (suc left) count plain indices line stars (tails (index e at line_index) more) =
-      indices_found objects o left (count + 1) (plain && is_plain e) (behind_all indices (value_of objects e)) line_index stars more
+      indices_found objects o left (count + 1) (plain && is_plain e) (behind_all indices (value_of objects e))
+      line_index stars more
   indices_found objects o (suc left) count plain indices line stars (tails t more) =
-      tails_found objects (tail_found objects (object_with objects o count plain indices line) stars t) (stars_behind stars t) more
+      tails_found objects (tail_found objects (object_with objects o count plain indices line) stars t)
+      (stars_behind stars t) more
 
   -- what stands behind a part whose type has these stars
   pub tails_found : List Shape → Found → (stars : List Star) → TypedTails → Found

@@ -1,5 +1,5 @@
--- What the values of a core tree's parts are. Which nodes a pointer may reach makes no difference to what it may be used
--- for, so the last star of a pointer's type is left out.
+-- What the values of a core tree's parts are. Which nodes a pointer may reach makes no difference to what it may be
+-- used for, so the last star of a pointer's type is left out.
 use Rattle.std.specs.Prelude.{◌≡◌, ℕ, zero, suc, ◌+◌, ◌<◌, ◌≤◌, Bool, true, false, List, [], ◌∷◌, ◌++◌, length, map, slice_get, Some, FitsSigned}
 use Rattle.std.specs.Int.{w64}
 use Rattle.std.specs.List.{Contains}
@@ -76,7 +76,8 @@ pub data Computes : Operation → List Kind → Kind → Type 0 where
 -- what a step takes, and what it gives
 pub data Takes (scope : Scope) : Operation → List Kind → Kind → Type 0 where
   use_ : {x : ℕ} {k : Kind} → HasBegun scope x k → Takes scope (Use x) [] k
-  element : {o n : ℕ} {plain : Bool} {s : Shape} → slice_get scope.objects o ≡ Some s → n ≡ length s.left + length s.right
+  element : {o n : ℕ} {plain : Bool} {s : Shape} → slice_get scope.objects o ≡ Some s
+      → n ≡ length s.left + length s.right
       → Takes scope (Element o n plain) (numbers n) (named s.spread s.ty.stars)
   address : {o n : ℕ} {s : Shape} → slice_get scope.objects o ≡ Some s → HasIndices s n
       → Takes scope (Address o n) (numbers n) (to s.ty.stars)
@@ -95,7 +96,8 @@ pub data Takes (scope : Scope) : Operation → List Kind → Kind → Type 0 whe
   call : {f : Function} {called : ℕ} → slice_get scope.functions called ≡ Some f
       → Takes scope (Call called (length f.params)) (map kind_of_type f.params) (kind_of_type f.result)
   read : {p : Kind} {cell : List Star} → IsPlaceOf cell p → Takes scope Read (p ∷ []) (kind_of cell)
-  write : {p : Kind} {cell : List Star} → IsPlaceOf cell p → Takes scope Write (p ∷ kind_of cell ∷ []) (kind_of cell)
+  write : {p : Kind} {cell : List Star} → IsPlaceOf cell p →
+      Takes scope Write (p ∷ kind_of cell ∷ []) (kind_of cell)
 
 -- what a step without a value takes
 pub data Uses (scope : Scope) : Action → List Kind → Type 0 where
@@ -103,8 +105,10 @@ pub data Uses (scope : Scope) : Action → List Kind → Type 0 where
   begin : {x : ℕ} {k : Kind} → IsLocal scope x k → Uses scope (Begin x) (k ∷ [])
   clear_number : {x : ℕ} → IsLocal scope x number → Uses scope (Clear x false) []
   clear_pointer : {x : ℕ} {cell : List Star} → IsLocal scope x (to cell) → Uses scope (Clear x true) []
-  fill : {x : ℕ} {p : Kind} {cell : List Star} → IsPlaceOf cell p → IsLocal scope x (kind_of cell) → Uses scope (Fill x) (p ∷ [])
-  get : {x : ℕ} {p : Kind} {cell : List Star} → IsPlaceOf cell p → HasBegun scope x (kind_of cell) → Uses scope (Get x) (p ∷ [])
+  fill : {x : ℕ} {p : Kind} {cell : List Star} → IsPlaceOf cell p → IsLocal scope x (kind_of cell) →
+      Uses scope (Fill x) (p ∷ [])
+  get : {x : ℕ} {p : Kind} {cell : List Star} → IsPlaceOf cell p → HasBegun scope x (kind_of cell) →
+      Uses scope (Get x) (p ∷ [])
   put : {p : Kind} {cell : List Star} → IsPlaceOf cell p → Uses scope Put (p ∷ kind_of cell ∷ [])
   send : {p : Kind} {cell : List Star} → IsPlaceOf cell p → Uses scope Send (p ∷ kind_of cell ∷ [])
   copy : {mode : _} {p q : Kind} {cell : List Star} → IsPlaceOf cell p → IsPlaceOf cell q

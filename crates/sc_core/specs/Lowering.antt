@@ -48,7 +48,8 @@ unfoldable mutual
   does_of objects result next empty = nothing
   does_of objects result next (declare locals) = declared objects next locals
   does_of objects result next (simple e) = whole objects e
-  does_of objects result next (split left right one_way at line) = splitting objects (found objects left) right one_way line
+  does_of objects result next (split left right one_way at line) =
+      splitting objects (found objects left) right one_way line
   does_of objects result next (choose_arms all) = arms_of objects result next all nothing
   does_of objects result next (choose_else all otherwise) =
       arms_of objects result next all (does_of objects result (next + length (types_of_arms all)) otherwise)
@@ -92,7 +93,11 @@ function_with objects f body = record {
 abbrev pub functions_of : List Shape → List PlainTypedFunction → List Function
 functions_of objects [] = []
 functions_of objects (f ∷ more) =
-    elim f.body [ None ↦ functions_of objects more | Some body ↦ function_with objects f body ∷ functions_of objects more ]
+    elim f.body [
+      | None ↦ functions_of objects more
+      | Some body ↦ function_with objects f body ∷
+          functions_of objects more
+    ]
 
 -- the first of the names that is `splitc_main`
 abbrev pub main_in : List Text → ℕ

@@ -105,8 +105,10 @@ changed (cell pointer own at) operation right line = update (reaching own pointe
 -- `++` or `--` behind a place, whose value is the old one
 abbrev pub changed_after : Found → (operation back : Operation) → (line : ℕ) → Core
 changed_after (value e) operation back line = e
-changed_after (local x at) operation back line = with_two back (changed (local x at) operation number_one line) number_one line
-changed_after (cell pointer own at) operation back line = update (reaching own pointer at) operation number_one (Some back) line
+changed_after (local x at) operation back line =
+    with_two back (changed (local x at) operation number_one line) number_one line
+changed_after (cell pointer own at) operation back line =
+    update (reaching own pointer at) operation number_one (Some back) line
 
 -- an object's cell as a pointer to it
 abbrev pub exposed : Core → Core

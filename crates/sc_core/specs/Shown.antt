@@ -1,5 +1,5 @@
--- What a step shows to the analysis of a source: what kind of point it is, which locals it reads and writes, whether its value
--- was fetched, and whether it depends on the node that executes it.
+-- What a step shows to the analysis of a source: what kind of point it is, which locals it reads and writes, whether
+-- its value was fetched, and whether it depends on the node that executes it.
 use Rattle.std.specs.Prelude.{ℕ, Bool, true, false, Option, Some, None, List, [], ◌∷◌, nat_lt}
 use Rattle.sc_base.specs.declared.value.CopyMode.{CopyMode}
 use Rattle.sc_core.specs.declared.operation.Operation.{Operation}
@@ -55,8 +55,8 @@ local_set_by (acts.Fill x) = Some x
 local_set_by (acts.Get x) = Some x
 local_set_by _ = None
 
--- The step's value may differ from node to node whatever its arguments are: a conversion of a local pointer, a read of memory, a
--- parameter, a call, or a call of the library. So may a constant, where it is the node itself.
+-- The step's value may differ from node to node whatever its arguments are: a conversion of a local pointer, a read of
+-- memory, a parameter, a call, or a call of the library. So may a constant, where it is the node itself.
 abbrev pub depends_on_node : (params : ℕ) → Operation → Bool
 depends_on_node params (Use x) = nat_lt x params
 depends_on_node params Own = true

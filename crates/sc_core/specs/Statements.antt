@@ -50,11 +50,13 @@ transferred objects e = reaching (is_own (star_of e)) (value_of objects e) (line
 abbrev pub copying : List Shape → CopyMode → (to from bytes : TypedExpression) → (line : ℕ) → Does
 copying objects mode to from bytes line =
     act (acts.Copy mode)
-    (argument (transferred objects to) (argument (transferred objects from) (argument (value_of objects bytes) none))) line
+    (argument (transferred objects to) (argument (transferred objects from) (argument (value_of objects bytes) none)))
+    line
 
 -- an expression as a whole statement, whose value would else be let go
 abbrev pub whole_form : List Shape → TypedForm → Does → (line : ℕ) → Does
-whole_form objects (assign None left right) dropped line = assigning (found objects left) (found objects right) dropped line
+whole_form objects (assign None left right) dropped line =
+    assigning (found objects left) (found objects right) dropped line
 whole_form objects (printf f args) dropped line =
     act (acts.Print f (count_of args)) (values_of objects args) line
 whole_form objects sync dropped line = act acts.Sync none line

@@ -1,4 +1,5 @@
--- The table of steps: for each its run of instructions, and what it does with values, which is what its instructions do.
+-- The table of steps: for each its run of instructions, and what it does with values, which is what its instructions
+-- do.
 use Rattle.std.specs.Prelude.{ℕ, Bool, true, false, List, [], ◌∷◌, slice_get}
 use Rattle.std.specs.Option.{option_map_or}
 use Rattle.sc_base.specs.declared.operator.Unary.TheVariants.{Minus, Not}
@@ -59,7 +60,8 @@ run_made layout node (one gain) values = made layout node gain values
 run_made layout node (then_not op) values =
     then_made (computed layout node op values) (λ v. made_by (computed layout node (un Not) (v ∷ [])))
 run_made layout node (back star) (pointer ∷ by ∷ []) =
-    then_made (computed layout node (un Minus) (by ∷ [])) (λ n. made_by (computed layout node (step star) (pointer ∷ n ∷ [])))
+    then_made (computed layout node (un Minus) (by ∷ []))
+    (λ n. made_by (computed layout node (step star) (pointer ∷ n ∷ [])))
 run_made layout node (back star) values = stuck
 
 -- what the step does with the values of its arguments

@@ -1,5 +1,5 @@
--- Core trees each of whose steps takes what is of its kind, and each of whose locals begins before it is used. What typing
--- accepts lowers to such a tree.
+-- Core trees each of whose steps takes what is of its kind, and each of whose locals begins before it is used. What
+-- typing accepts lowers to such a tree.
 use Rattle.std.specs.Prelude.{◌≡◌, ℕ, zero, suc, Bool, true, false, Option, Some, None, List, [], ◌∷◌, ◌++◌, length, map, slice_get}
 use Rattle.std.specs.List.{All}
 use Rattle.sc_base.specs.declared.shape.Star.{Star}
@@ -26,12 +26,14 @@ abbrev mutual
   Has scope (constant c) kind = IsConstant c kind
   Has scope (step operation arguments line) kind =
       (kinds : List Kind) × Have scope arguments kinds × Takes scope operation kinds kind
-  Has scope (choice false test on off) kind = IsValue kind × Has scope test number × Has scope on kind × Has scope off kind
+  Has scope (choice false test on off) kind =
+      IsValue kind × Has scope test number × Has scope on kind × Has scope off kind
   Has scope (choice true test on off) kind =
       IsValue kind × (cell : List Star) × Has scope test (to cell) × Has scope on kind × Has scope off kind
   Has scope (update pointer operation right back line) kind =
       (cell : List Star) × (place : Kind) × (other : Kind) × (kind ≡ kind_of cell) × IsPlaceOf cell place
-      × Has scope pointer place × Has scope right other × Computes operation (kind ∷ other ∷ []) kind × TakesBack back kind
+      × Has scope pointer place × Has scope right other × Computes operation (kind ∷ other ∷ []) kind
+      × TakesBack back kind
 
   pub Have : Scope → Arguments → List Kind → Type 0
   Have scope none [] = Unit {0}
@@ -72,7 +74,8 @@ IsTypedDoes scope result breaks continues (then_ first second) =
 IsTypedDoes scope result breaks continues (act action arguments line) =
     (kinds : List Kind) × Have scope arguments kinds × Uses scope action kinds
 IsTypedDoes scope result breaks continues (choose false test on off) =
-    Has scope test number × IsTypedDoes scope result breaks continues on × IsTypedDoes scope result breaks continues off
+    Has scope test number × IsTypedDoes scope result breaks continues on
+    × IsTypedDoes scope result breaks continues off
 IsTypedDoes scope result breaks continues (choose true test on off) =
     (cell : List Star) × Has scope test (to cell)
     × IsTypedDoes scope result breaks continues on × IsTypedDoes scope result breaks continues off

@@ -52,7 +52,8 @@ logical level es = if nat_eq level 8 then both es else either es
 
 abbrev pub listed : (level start line : ℕ) → Expression → Expressions → Expression
 listed level start line first no_expressions = first
-listed level start line first (expressions e es) = expression (logical level (expressions first (expressions e es))) start start line
+listed level start line first (expressions e es) =
+    expression (logical level (expressions first (expressions e es))) start start line
 
 abbrev pub tailed : (start line : ℕ) → Expression → Tails → Expression
 tailed start line first no_tails = first
@@ -65,9 +66,11 @@ pub data IsStars : (depth : ℕ) → Rest → Rest → List Star → Type 0 wher
   local_star : {d : ℕ} {a b c : Rest} {ss : List Star} →
       Takes (Mark mark.Star) d a b → IsStars d b c ss → IsStars d a c (star.Local ∷ ss)
   global_star : {d : ℕ} {a b c e : Rest} {ss : List Star} →
-      Takes (Mark mark.Star) d a b → Takes (Word word.Global) d b c → IsStars d c e ss → IsStars d a e (star.Global ∷ ss)
+      Takes (Mark mark.Star) d a b → Takes (Word word.Global) d b c → IsStars d c e ss →
+      IsStars d a e (star.Global ∷ ss)
   spread_star : {d : ℕ} {a b c e : Rest} {ss : List Star} →
-      Takes (Mark mark.Star) d a b → Takes (Word word.Spread) d b c → IsStars d c e ss → IsStars d a e (star.Spread ∷ ss)
+      Takes (Mark mark.Star) d a b → Takes (Word word.Spread) d b c → IsStars d c e ss →
+      IsStars d a e (star.Spread ∷ ss)
 
 -- ---- expressions
 
@@ -75,14 +78,15 @@ mutual
   pub data IsAssign : (depth : ℕ) → Rest → Rest → Expression → Type 0 where
     no_assignment : {d : ℕ} {a b : Rest} {e : Expression} → IsCond (suc d) a b e → IsAssign d a b e
     assignment : {d : ℕ} {a b c f : Rest} {left right : Expression} {m : TheMark} {x : Assigning} →
-        IsCond (suc d) a b left → assigning_of m ≡ Some x → Takes (Mark m) (suc d) b c → IsAssign (suc d) c f right →
-        IsAssign d a f (expression (assign x.op left right) (number_of a) (number_of b) (line_of b))
+        IsCond (suc d) a b left → assigning_of m ≡ Some x → Takes (Mark m) (suc d) b c →
+        IsAssign (suc d) c f right → IsAssign d a f
+        (expression (assign x.op left right) (number_of a) (number_of b) (line_of b))
 
   pub data IsCond : (depth : ℕ) → Rest → Rest → Expression → Type 0 where
     no_choice : {d : ℕ} {a b : Rest} {e : Expression} → IsLevel 10 d a b e → IsCond d a b e
     choosing : {d : ℕ} {a b c f g h : Rest} {test yes no : Expression} →
-        IsLevel 10 d a b test → Takes (Mark mark.Question) d b c → IsAssign d c f yes → Takes (Mark mark.Colon) d f g →
-        IsBranch d g h no →
+        IsLevel 10 d a b test → Takes (Mark mark.Question) d b c → IsAssign d c f yes →
+        Takes (Mark mark.Colon) d f g → IsBranch d g h no →
         IsCond d a h (expression (choice test yes no) (number_of a) (number_of b) (line_of b))
 
   pub data IsBranch : (depth : ℕ) → Rest → Rest → Expression → Type 0 where
@@ -112,7 +116,8 @@ mutual
 
   pub data IsUnary : (depth : ℕ) → Rest → Rest → Expression → Type 0 where
     prefix_operator : {d : ℕ} {a b c : Rest} {m : TheMark} {x : Prefix} {e : Expression} →
-        prefix_of m ≡ Some x → Takes (Mark m) (suc d) a b → IsUnary (suc d) b c e → IsUnary d a c (placed a (prefixed x e))
+        prefix_of m ≡ Some x → Takes (Mark m) (suc d) a b → IsUnary (suc d) b c e →
+        IsUnary d a c (placed a (prefixed x e))
     casting : {d : ℕ} {a b c f g h : Rest} {ss : List Star} {e : Expression} →
         Takes (Mark mark.OpenRound) d a b → Takes (Word word.Int) (suc d) b c → IsStars (suc d) c f ss →
         Takes (Mark mark.CloseRound) (suc d) f g → IsUnary (suc d) g h e → IsUnary d a h (placed a (cast ss e))
@@ -122,12 +127,13 @@ mutual
   pub data IsTails : (depth : ℕ) → Rest → Rest → List Tail → Type 0 where
     no_more_tails : {d : ℕ} {a : Rest} → IsTails d a a []
     index_tail : {d : ℕ} {a b c f g : Rest} {e : Expression} {ts : List Tail} →
-        Takes (Mark mark.OpenSquare) d a b → IsAssign d b c e → Takes (Mark mark.CloseSquare) d c f → IsTails d f g ts →
-        IsTails d a g (index e (number_of a) (line_of a) ∷ ts)
+        Takes (Mark mark.OpenSquare) d a b → IsAssign d b c e → Takes (Mark mark.CloseSquare) d c f →
+        IsTails d f g ts → IsTails d a g (index e (number_of a) (line_of a) ∷ ts)
     up_tail : {d : ℕ} {a b c : Rest} {ts : List Tail} →
         Takes (Mark mark.PlusPlus) d a b → IsTails d b c ts → IsTails d a c (up (number_of a) (line_of a) ∷ ts)
     down_tail : {d : ℕ} {a b c : Rest} {ts : List Tail} →
-        Takes (Mark mark.MinusMinus) d a b → IsTails d b c ts → IsTails d a c (down (number_of a) (line_of a) ∷ ts)
+        Takes (Mark mark.MinusMinus) d a b → IsTails d b c ts →
+        IsTails d a c (down (number_of a) (line_of a) ∷ ts)
 
   pub data IsPrimary : (depth : ℕ) → Rest → Rest → Expression → Type 0 where
     numeral : {d : ℕ} {a b : Rest} {n : ℤ} → Takes (Number n) d a b → IsPrimary d a b (placed a (number n))
@@ -153,7 +159,8 @@ mutual
   pub data IsMoreArguments : (depth : ℕ) → Rest → Rest → List Expression → Type 0 where
     no_more_arguments : {d : ℕ} {a : Rest} → IsMoreArguments d a a []
     one_more_argument : {d : ℕ} {a b c f : Rest} {e : Expression} {es : List Expression} →
-        Takes (Mark mark.Comma) d a b → IsArgument d b c e → IsMoreArguments d c f es → IsMoreArguments d a f (e ∷ es)
+        Takes (Mark mark.Comma) d a b → IsArgument d b c e → IsMoreArguments d c f es →
+        IsMoreArguments d a f (e ∷ es)
 
   pub data IsArgument : (depth : ℕ) → Rest → Rest → Expression → Type 0 where
     value_argument : {d : ℕ} {a b : Rest} {e : Expression} → IsAssign d a b e → IsArgument d a b e

@@ -41,8 +41,8 @@ mutual
   pub data IsSummands : (depth : ℕ) → Rest → Rest → List BoundStep → Type 0 where
     no_more_summands : {d : ℕ} {a : Rest} → IsSummands d a a []
     one_more_summand : {d : ℕ} {a b c f : Rest} {m : TheMark} {op : Binary} {next more : List BoundStep} →
-        operator_of m ≡ Some (record { level = 1; op = Some op }) → Takes (Mark m) d a b → IsProduct d b c next →
-        IsSummands d c f more → IsSummands d a f (next ++ step.Op op ∷ more)
+        operator_of m ≡ Some (record { level = 1; op = Some op }) → Takes (Mark m) d a b →
+        IsProduct d b c next → IsSummands d c f more → IsSummands d a f (next ++ step.Op op ∷ more)
 
   pub data IsProduct : (depth : ℕ) → Rest → Rest → List BoundStep → Type 0 where
     product : {d : ℕ} {a b c : Rest} {first more : List BoundStep} →
@@ -58,15 +58,16 @@ mutual
     number_unit : {d : ℕ} {a b : Rest} {n : ℤ} → Takes (Number n) d a b → IsUnit d a b (step.Number n ∷ [])
     procs_unit : {d : ℕ} {a b : Rest} → Takes (Word word.Procs) d a b → IsUnit d a b (step.Procs ∷ [])
     parenthesized_unit : {d : ℕ} {a b c f : Rest} {all : List BoundStep} →
-        Takes (Mark mark.OpenRound) d a b → IsBound d b c all → Takes (Mark mark.CloseRound) d c f → IsUnit d a f all
+        Takes (Mark mark.OpenRound) d a b → IsBound d b c all → Takes (Mark mark.CloseRound) d c f →
+        IsUnit d a f all
 
 -- ---- objects
 
 pub data IsBounds : (depth : ℕ) → Rest → Rest → List Bound → Type 0 where
   no_more_bounds : {d : ℕ} {a : Rest} → IsBounds d a a []
   one_more_bound : {d : ℕ} {a b c f g : Rest} {all : List BoundStep} {bs : List Bound} →
-      Takes (Mark mark.OpenSquare) d a b → IsBound d b c all → Takes (Mark mark.CloseSquare) d c f → IsBounds d f g bs →
-      IsBounds d a g (record { steps = all; line = line_of b } ∷ bs)
+      Takes (Mark mark.OpenSquare) d a b → IsBound d b c all → Takes (Mark mark.CloseSquare) d c f →
+      IsBounds d f g bs → IsBounds d a g (record { steps = all; line = line_of b } ∷ bs)
 
 pub data IsDeclarator : (depth : ℕ) → Rest → Rest → Shape → Type 0 where
   ordinary : {d x : ℕ} {a b c f : Rest} {ss : List Star} {bs : List Bound} →
@@ -74,15 +75,24 @@ pub data IsDeclarator : (depth : ℕ) → Rest → Rest → Shape → Type 0 whe
       IsDeclarator d a f
       (record { name = x; ty = int_with ss; spread = false; left = bs; right = []; at = number_of b; line = line_of b })
   spread : {d x : ℕ} {a b c f g h : Rest} {ss : List Star} {first : Bound} {bs right : List Bound} →
-      IsStars d a b ss → Takes (Name x) d b c → IsBounds d c f (first ∷ bs) → Takes (Mark mark.ColonColon) d f g →
-      IsBounds d g h right →
+      IsStars d a b ss → Takes (Name x) d b c → IsBounds d c f (first ∷ bs) →
+      Takes (Mark mark.ColonColon) d f g → IsBounds d g h right →
       IsDeclarator d a h
-      (record { name = x; ty = int_with ss; spread = true; left = first ∷ bs; right = right; at = number_of b; line = line_of b })
+      (record {
+        name = x;
+        ty = int_with ss;
+        spread = true;
+        left = first ∷ bs;
+        right = right;
+        at = number_of b;
+        line = line_of b;
+      })
 
 pub data IsMoreDeclarators : (depth : ℕ) → Rest → Rest → List Shape → Type 0 where
   no_more_declarators : {d : ℕ} {a : Rest} → IsMoreDeclarators d a a []
   one_more_declarator : {d : ℕ} {a b c f : Rest} {s : Shape} {ss : List Shape} →
-      Takes (Mark mark.Comma) d a b → IsDeclarator d b c s → IsMoreDeclarators d c f ss → IsMoreDeclarators d a f (s ∷ ss)
+      Takes (Mark mark.Comma) d a b → IsDeclarator d b c s → IsMoreDeclarators d c f ss →
+      IsMoreDeclarators d a f (s ∷ ss)
 
 -- ---- functions
 
@@ -114,7 +124,8 @@ pub data IsParams : (depth : ℕ) → Rest → Rest → List Param → Type 0 wh
 
 pub data IsBody : (depth : ℕ) → Rest → Rest → Option Statements → Type 0 where
   prototype : {d : ℕ} {a b : Rest} → Takes (Mark mark.Semicolon) d a b → IsBody d a b None
-  definition : {d : ℕ} {a b : Rest} {ss : List Statement} → IsBlock d a b ss → IsBody d a b (Some (statements_of ss))
+  definition : {d : ℕ} {a b : Rest} {ss : List Statement} → IsBlock d a b ss →
+      IsBody d a b (Some (statements_of ss))
 
 -- ---- items
 
@@ -124,12 +135,13 @@ pub data Item : Type 0 where
 
 pub data IsItem : (depth : ℕ) → Rest → Rest → Item → Type 0 where
   objects_item : {d : ℕ} {a b c f g : Rest} {s : Shape} {ss : List Shape} →
-      Takes (Word word.Int) d a b → IsDeclarator d b c s → IsMoreDeclarators d c f ss → Takes (Mark mark.Semicolon) d f g →
-      IsItem d a g (objects (s ∷ ss))
+      Takes (Word word.Int) d a b → IsDeclarator d b c s → IsMoreDeclarators d c f ss →
+      Takes (Mark mark.Semicolon) d f g → IsItem d a g (objects (s ∷ ss))
   function_item : {d x : ℕ} {a b c f g h i : Rest} {result : Ty} {ps : List Param} {body : Option Statements} →
       IsResult d a b result → Takes (Name x) d b c → Takes (Mark mark.OpenRound) d c f → IsParams d f g ps →
       Takes (Mark mark.CloseRound) d g h → IsBody d h i body →
-      IsItem d a i (function (record { name = x; result = result; params = ps; body = body; at = number_of b; line = line_of b }))
+      IsItem d a i
+      (function (record { name = x; result = result; params = ps; body = body; at = number_of b; line = line_of b }))
 
 pub data IsMoreItems : (depth : ℕ) → Rest → Rest → List Item → Type 0 where
   no_more_items : {d : ℕ} {a : Rest} → IsMoreItems d a a []

@@ -75,7 +75,8 @@ pub record Begins (ts : List Token) (k : ℕ) : Type 0 where
 
 -- in each sentence that begins with the first k tokens, these are no deeper than the limit
 abbrev pub Shallow : ℕ → List Token → ℕ → Type 0
-Shallow limit ts k = (us : List Spelt) (tree : PlainTree) → Spells us tree → Agrees k ts (tokens_of us) → AllShallow limit k us
+Shallow limit ts k = (us : List Spelt) (tree : PlainTree) → Spells us tree → Agrees k ts (tokens_of us) →
+    AllShallow limit k us
 
 -- `seen` is the least number such that no sentence begins with so many tokens, and no token before is too deep
 pub record IsSyntax (limit : ℕ) (ts : List Token) (seen : ℕ) : Type 0 where
@@ -88,7 +89,8 @@ pub record IsTooDeep (limit : ℕ) (ts : List Token) (seen : ℕ) : Type 0 where
   pub last : ℕ
   pub counts : seen ≡ last + 1
   pub begins : Begins ts seen
-  pub deep : (us : List Spelt) (tree : PlainTree) → Spells us tree → Agrees seen ts (tokens_of us) → FirstDeep limit last us
+  pub deep : (us : List Spelt) (tree : PlainTree) → Spells us tree → Agrees seen ts (tokens_of us) →
+      FirstDeep limit last us
 
 -- what a refusal says of the tokens
 abbrev pub Says : ℕ → List Token → ParseError → Type 0

@@ -94,27 +94,31 @@ mutual
     if_statement : {d : ℕ} {a b c : Rest} {x : Arm} {xs : List Arm} →
         IsArm (suc d) a b x → IsElseIfs (suc d) b c xs → IsStatement d a c (choose (arms_of (x ∷ xs)))
     if_else_statement : {d : ℕ} {a b c f g : Rest} {x : Arm} {xs : List Arm} {s : Statement} →
-        IsArm (suc d) a b x → IsElseIfs (suc d) b c xs → Takes (Word word.Else) (suc d) c f → before_if f ≡ false →
-        IsStatement (suc d) f g s → IsStatement d a g (choose_else (arms_of (x ∷ xs)) s)
+        IsArm (suc d) a b x → IsElseIfs (suc d) b c xs → Takes (Word word.Else) (suc d) c f →
+        before_if f ≡ false → IsStatement (suc d) f g s → IsStatement d a g (choose_else (arms_of (x ∷ xs)) s)
     while_statement : {d : ℕ} {a b c f g h : Rest} {test : Expression} {s : Statement} →
-        Takes (Word word.While) (suc d) a b → Takes (Mark mark.OpenRound) (suc d) b c → IsAssign (suc d) c f test →
-        Takes (Mark mark.CloseRound) (suc d) f g → IsStatement (suc d) g h s → IsStatement d a h (while_ test s)
+        Takes (Word word.While) (suc d) a b → Takes (Mark mark.OpenRound) (suc d) b c →
+        IsAssign (suc d) c f test → Takes (Mark mark.CloseRound) (suc d) f g → IsStatement (suc d) g h s →
+        IsStatement d a h (while_ test s)
     do_statement : {d : ℕ} {a b c f g h i j : Rest} {test : Expression} {s : Statement} →
         Takes (Word word.Do) (suc d) a b → IsStatement (suc d) b c s → Takes (Word word.While) (suc d) c f →
-        Takes (Mark mark.OpenRound) (suc d) f g → IsAssign (suc d) g h test → Takes (Mark mark.CloseRound) (suc d) h i →
-        Takes (Mark mark.Semicolon) (suc d) i j → IsStatement d a j (do_while s test)
+        Takes (Mark mark.OpenRound) (suc d) f g → IsAssign (suc d) g h test →
+        Takes (Mark mark.CloseRound) (suc d) h i → Takes (Mark mark.Semicolon) (suc d) i j →
+        IsStatement d a j (do_while s test)
     for_statement : {d : ℕ} {a b c f g h i j k m : Rest} {first test next : Option Expression} {s : Statement} →
-        Takes (Word word.For) (suc d) a b → Takes (Mark mark.OpenRound) (suc d) b c → IsOptional (suc d) c f first →
-        Takes (Mark mark.Semicolon) (suc d) f g → IsOptional (suc d) g h test → Takes (Mark mark.Semicolon) (suc d) h i →
-        IsOptional (suc d) i j next → Takes (Mark mark.CloseRound) (suc d) j k → IsStatement (suc d) k m s →
+        Takes (Word word.For) (suc d) a b → Takes (Mark mark.OpenRound) (suc d) b c →
+        IsOptional (suc d) c f first → Takes (Mark mark.Semicolon) (suc d) f g → IsOptional (suc d) g h test →
+        Takes (Mark mark.Semicolon) (suc d) h i → IsOptional (suc d) i j next →
+        Takes (Mark mark.CloseRound) (suc d) j k → IsStatement (suc d) k m s →
         IsStatement d a m (for_ first test next s)
     for_mine_statement : {d x : ℕ} {a b c f g h i j : Rest} {bound : Expression} {s : Statement} →
-        Takes (Word word.ForMine) (suc d) a b → Takes (Mark mark.OpenRound) (suc d) b c → Takes (Name x) (suc d) c f →
-        Takes (Mark mark.Comma) (suc d) f g → IsAssign (suc d) g h bound → Takes (Mark mark.CloseRound) (suc d) h i →
-        IsStatement (suc d) i j s → IsStatement d a j (for_mine x bound s (number_of c) (line_of c))
+        Takes (Word word.ForMine) (suc d) a b → Takes (Mark mark.OpenRound) (suc d) b c →
+        Takes (Name x) (suc d) c f → Takes (Mark mark.Comma) (suc d) f g → IsAssign (suc d) g h bound →
+        Takes (Mark mark.CloseRound) (suc d) h i → IsStatement (suc d) i j s →
+        IsStatement d a j (for_mine x bound s (number_of c) (line_of c))
     return_statement : {d : ℕ} {a b c f : Rest} {value : Option Expression} →
-        Takes (Word word.Return) (suc d) a b → IsOptional (suc d) b c value → Takes (Mark mark.Semicolon) (suc d) c f →
-        IsStatement d a f (return value (number_of a) (line_of a))
+        Takes (Word word.Return) (suc d) a b → IsOptional (suc d) b c value →
+        Takes (Mark mark.Semicolon) (suc d) c f → IsStatement d a f (return value (number_of a) (line_of a))
     break_statement : {d : ℕ} {a b c : Rest} →
         Takes (Word word.Break) (suc d) a b → Takes (Mark mark.Semicolon) (suc d) b c →
         IsStatement d a c (break (number_of a))
@@ -143,12 +147,13 @@ mutual
 
   pub data IsBlock : (depth : ℕ) → Rest → Rest → List Statement → Type 0 where
     braces : {d : ℕ} {a b c f : Rest} {ss : List Statement} →
-        Takes (Mark mark.OpenCurly) d a b → IsParts d b c ss → Takes (Mark mark.CloseCurly) d c f → IsBlock d a f ss
+        Takes (Mark mark.OpenCurly) d a b → IsParts d b c ss → Takes (Mark mark.CloseCurly) d c f →
+        IsBlock d a f ss
 
   pub data IsParts : (depth : ℕ) → Rest → Rest → List Statement → Type 0 where
     no_more_parts : {d : ℕ} {a : Rest} → IsParts d a a []
     locals_part : {d : ℕ} {a b c f g h : Rest} {l : Declared} {ls : List Declared} {ss : List Statement} →
-        Takes (Word word.Int) d a b → IsLocal d b c l → IsMoreLocals d c f ls → Takes (Mark mark.Semicolon) d f g →
-        IsParts d g h ss → IsParts d a h (declare (l ∷ ls) ∷ ss)
+        Takes (Word word.Int) d a b → IsLocal d b c l → IsMoreLocals d c f ls →
+        Takes (Mark mark.Semicolon) d f g → IsParts d g h ss → IsParts d a h (declare (l ∷ ls) ∷ ss)
     statement_part : {d : ℕ} {a b c : Rest} {s : Statement} {ss : List Statement} →
         IsStatement d a b s → IsParts d b c ss → IsParts d a c (s ∷ ss)

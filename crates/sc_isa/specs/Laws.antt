@@ -47,7 +47,8 @@ pub record RunsSoundly (layout : Arrangement) (run : RunOf Ask Halt) : Type 0 wh
 abbrev pub SoundCodeRunsSoundly : Type 0
 SoundCodeRunsSoundly =
     (code : Code) (layout : Arrangement) (node budget many : ℕ) (answers : List Answer)
-    → IsSound code layout → node < layout.nodes → RunsSoundly layout (code_run code layout node budget many answers)
+    → IsSound code layout → node < layout.nodes →
+    RunsSoundly layout (code_run code layout node budget many answers)
 
 abbrev pub HasCounter : Code → Track → Type 0
 HasCounter code (Counter counter) = counter ≤ code.sites

@@ -23,7 +23,8 @@ use Rattle.sc_isa.specs.Moves.{After, GoesOn, Ends, Sticks, Move, Comes, Taken, 
 
 -- ---- the steps that take values
 
-abbrev pub gained : Code → Arrangement → (node : ℕ) → Gain → (site : ℕ) → Track → (line : ℕ) → State → Option Taken
+abbrev pub gained : Code → Arrangement → (node : ℕ) → Gain → (site : ℕ) → Track → (line : ℕ)
+    → State → Option Taken
     → Move
 gained code layout node g site track line s None = Comes Sticks
 gained code layout node g site track line s (Some t) =

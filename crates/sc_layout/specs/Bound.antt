@@ -12,7 +12,8 @@ use Rattle.sc_base.specs.declared.shape.BoundStep.TheVariants.{Number, Procs, Op
 pub data IsWhole : List BoundStep → Type 0 where
   number : (n : ℤ) → IsWhole (Number n ∷ [])
   procs : IsWhole (Procs ∷ [])
-  operation : (op : Binary) (left right : List BoundStep) → IsWhole left → IsWhole right → IsWhole (left ++ right ++ Op op ∷ [])
+  operation : (op : Binary) (left right : List BoundStep) → IsWhole left → IsWhole right →
+      IsWhole (left ++ right ++ Op op ∷ [])
 
 -- the stack after one step, its top first: None where the operator faults or lacks an operand
 abbrev pub stack_after : ℕ → BoundStep → List ℤ → Option (List ℤ)

@@ -23,28 +23,35 @@ combined op a b = option_and_then (λ x. option_and_then (λ y. result_ok (binar
 abbrev pub PartsGiveTheValue : Type 0
 PartsGiveTheValue =
     (nodes : ℕ) (op : Binary) (left right : List BoundStep) →
-    IsWhole left → IsWhole right → result_of nodes (left ++ right ++ Op op ∷ []) ≡ combined op (result_of nodes left) (result_of nodes right)
+    IsWhole left → IsWhole right → result_of nodes (left ++ right ++ Op op ∷ []) ≡ combined op
+    (result_of nodes left) (result_of nodes right)
 
 -- an object's flat indices and its places correspond one to one
 pub record OneToOne (layout : Arrangement) (object : ℕ) : Type 0 where
-  pub within : (node index : ℕ) (place : Place) → place_of layout node object index ≡ Some place → (place.object ≡ object) × IsPlace layout place
-  pub apart : (node i j : ℕ) (place : Place) → place_of layout node object i ≡ Some place → place_of layout node object j ≡ Some place → i ≡ j
-  pub reached : (node : ℕ) (place : Place) → place.object ≡ object → IsPlace layout place → (index : ℕ) × (place_of layout node object index ≡ Some place)
+  pub within : (node index : ℕ) (place : Place) → place_of layout node object index ≡ Some place →
+      (place.object ≡ object) × IsPlace layout place
+  pub apart : (node i j : ℕ) (place : Place) → place_of layout node object i ≡ Some place →
+      place_of layout node object j ≡ Some place → i ≡ j
+  pub reached : (node : ℕ) (place : Place) → place.object ≡ object → IsPlace layout place → (index : ℕ)
+      × (place_of layout node object index ≡ Some place)
 
 abbrev pub SpreadElementsArePlaces : Type 0
 SpreadElementsArePlaces =
     (layout : Arrangement) (object : ℕ) (o : LaidObject) →
-    IsLayout layout → slice_get layout.objects object ≡ Some o → o.shape.spread ≡ true → OneToOne layout object
+    IsLayout layout → slice_get layout.objects object ≡ Some o → o.shape.spread ≡ true →
+    OneToOne layout object
 
 -- node 0 has at least as many cells as any other
 abbrev pub NodeZeroIsFullest : Type 0
-NodeZeroIsFullest = (layout : Arrangement) (node : ℕ) → IsLayout layout → cells_on layout node ≤ cells_on layout 0
+NodeZeroIsFullest = (layout : Arrangement) (node : ℕ) → IsLayout layout →
+    cells_on layout node ≤ cells_on layout 0
 
 -- two spread steps that do not fault are one by the sum
 abbrev pub SpreadStepsAdd : Type 0
 SpreadStepsAdd =
     (nodes : ℕ) (from over to : Value) (a b : ℤ) →
-    spread_step nodes from a ≡ Ok over → spread_step nodes over b ≡ Ok to → spread_step nodes from (a +ℤ b) ≡ Ok to
+    spread_step nodes from a ≡ Ok over → spread_step nodes over b ≡ Ok to →
+    spread_step nodes from (a +ℤ b) ≡ Ok to
 
 -- the pointer after this many spread steps by one
 abbrev pub walk_on : ℕ → Result Value FaultKind → Result Value FaultKind
@@ -60,9 +67,11 @@ walked nodes pointer (suc steps) = walk_on nodes (walked nodes pointer steps)
 abbrev pub WalkIsCyclic : Type 0
 WalkIsCyclic =
     (layout : Arrangement) (object node i : ℕ) (o : LaidObject) →
-    IsLayout layout → slice_get layout.objects object ≡ Some o → o.shape.spread ≡ true → o.shape.right ≡ [] → i < product o.bounds →
+    IsLayout layout → slice_get layout.objects object ≡ Some o → o.shape.spread ≡ true →
+    o.shape.right ≡ [] → i < product o.bounds →
     (walked layout.nodes (Ptr object 0 0) i ≡ Ok (Ptr object (i % layout.nodes) (i / layout.nodes)))
-    × (place_of layout node object i ≡ Some (record { object = object; node = i % layout.nodes; offset = i / layout.nodes }))
+    × (place_of layout node object i ≡ Some
+    (record { object = object; node = i % layout.nodes; offset = i / layout.nodes }))
 
 -- a pointer that was given a node has it
 abbrev pub ToprocOfToglobal : Type 0

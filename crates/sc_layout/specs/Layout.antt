@@ -67,14 +67,16 @@ bound_of nodes bound = ok_or (value_of nodes bound.steps) (BadBound bound.line)
 
 unfoldable pub object_of : ℕ → Shape → Result LaidObject LayoutError
 object_of nodes shape =
-    result_map_both (λ values. record { shape = shape; bounds = values }) (λ e. e) (each_of (bound_of nodes) (shape.left ++ shape.right))
+    result_map_both (λ values. record { shape = shape; bounds = values }) (λ e. e)
+    (each_of (bound_of nodes) (shape.left ++ shape.right))
 
 -- the layout, where the fullest node, which is node 0, has few enough cells; a number of them that does not
 -- fit 64 bits is carried as the greatest that does
 abbrev pub within_cells : ℕ → Result (List LaidObject) LayoutError → Result Arrangement LayoutError
 within_cells nodes (Ok objects) =
     let layout : Arrangement = record { nodes = nodes; objects = objects } in
-    if nat_lt LIMITS.cells (cells_on layout 0) then Err (TooManyCells (min (cells_on layout 0) (2 ^ 64 - 1))) else Ok layout
+    if nat_lt LIMITS.cells (cells_on layout 0) then Err (TooManyCells (min (cells_on layout 0) (2 ^ 64 - 1)))
+    else Ok layout
 within_cells nodes (Err e) = Err e
 
 -- the layout of the shapes, or the first refusal: too many objects, a bad bound, too many cells

@@ -30,15 +30,18 @@ spread_place nodes b object index =
 unfoldable pub place_in : ℕ → LaidObject → ℕ → ℕ → ℕ → Option Place
 place_in nodes o node object index =
     if nat_lt index (product o.bounds)
-    then Some (if o.shape.spread then spread_place nodes (block_of o) object index else record { object = object; node = node; offset = index })
+    then Some (if o.shape.spread then spread_place nodes (block_of o) object index
+    else record { object = object; node = node; offset = index })
     else None
 
 abbrev pub place_of : Arrangement → ℕ → ℕ → ℕ → Option Place
-place_of layout node object index = option_and_then (λ o. place_in layout.nodes o node object index) (slice_get layout.objects object)
+place_of layout node object index =
+    option_and_then (λ o. place_in layout.nodes o node object index) (slice_get layout.objects object)
 
 -- the value of the object's dimension
 abbrev pub bound_at : Arrangement → ℕ → ℕ → Option ℕ
-bound_at layout object dimension = option_and_then (λ o. slice_get o.bounds dimension) (slice_get layout.objects object)
+bound_at layout object dimension =
+    option_and_then (λ o. slice_get o.bounds dimension) (slice_get layout.objects object)
 
 -- the type is that of a pointer to a cell of the other type
 pub record IsPointerTo (cell ty : Ty) : Type 0 where
@@ -51,7 +54,8 @@ abbrev pub FitsType : Arrangement → Ty → Value → Type 0
 FitsType layout ty (Int n) = (ty.stars ≡ []) × FitsSigned w64 n
 FitsType layout ty Null = ty.stars ≢ []
 FitsType layout ty (Ptr object node offset) =
-    (node < layout.nodes) × (offset < 2 ^ 32) × IsSomeAnd (slice_get layout.objects object) (λ o. IsPointerTo o.shape.ty ty)
+    (node < layout.nodes) × (offset < 2 ^ 32)
+    × IsSomeAnd (slice_get layout.objects object) (λ o. IsPointerTo o.shape.ty ty)
 
 -- the value may stand in the place's cell
 abbrev pub Fits : Arrangement → Place → Value → Type 0

@@ -20,7 +20,8 @@ IsPointer layout (Ptr object node offset) = (object < length layout.objects) × 
 -- the place that a pointer is used at
 abbrev pub used_place : Arrangement → Value → Result Place FaultKind
 used_place layout (Ptr object node offset) =
-    if nat_lt offset (extent_of layout node object) then Ok (record { object = object; node = node; offset = offset }) else Err Index
+    if nat_lt offset (extent_of layout node object) then Ok (record { object = object; node = node; offset = offset })
+    else Err Index
 used_place layout value = Err NullUse
 
 -- a pointer with this offset, where there may be one

@@ -14,7 +14,8 @@ value_of radix digits = fold (λ value digit. value * radix + digit_value digit)
 
 -- whether the bytes begin with `0x` or `0X` and a hexadecimal digit
 abbrev pub is_hex : List ℕ → Bool
-is_hex (zero_ ∷ mark ∷ digit ∷ bytes) = ((zero_ == 48) && ((mark == 120) || (mark == 88))) && is_ascii_hexdigit digit
+is_hex (zero_ ∷ mark ∷ digit ∷ bytes) =
+    ((zero_ == 48) && ((mark == 120) || (mark == 88))) && is_ascii_hexdigit digit
 is_hex _ = false
 
 -- the bytes of the number at the front of bytes that begin with a digit

@@ -100,21 +100,27 @@ mark_text mark.Greater = codes ">"
 -- every reserved word
 abbrev pub words : List Word
 words =
-    word.Int ∷ word.Void ∷ word.If ∷ word.Else ∷ word.While ∷ word.Do ∷ word.For ∷ word.Return ∷ word.Break ∷
+    word.Int ∷ word.Void ∷ word.If ∷ word.Else ∷ word.While ∷ word.Do ∷ word.For ∷ word.Return ∷
+    word.Break ∷
     word.Continue ∷ word.Global ∷ word.Spread ∷ word.Sizeof ∷ word.ForMine ∷ word.Null ∷ word.MyProc ∷
-    word.Procs ∷ word.Auto ∷ word.Char ∷ word.Const ∷ word.Default ∷ word.Case ∷ word.Double ∷ word.Enum ∷
-    word.Extern ∷ word.Float ∷ word.Goto ∷ word.Long ∷ word.Register ∷ word.Short ∷ word.Signed ∷ word.Static ∷
+    word.Procs ∷ word.Auto ∷ word.Char ∷ word.Const ∷ word.Default ∷ word.Case ∷
+    word.Double ∷ word.Enum ∷
+    word.Extern ∷ word.Float ∷ word.Goto ∷ word.Long ∷ word.Register ∷ word.Short ∷ word.Signed ∷
+    word.Static ∷
     word.Struct ∷ word.Switch ∷ word.Typedef ∷ word.Union ∷ word.Unsigned ∷ word.Volatile ∷ []
 
 -- every mark, the longer ones first
 abbrev pub marks : List Mark
 marks =
     mark.ShiftLeftEqual ∷ mark.ShiftRightEqual ∷ mark.ColonColon ∷ mark.ColonEqual ∷ mark.ColonMinus ∷
-    mark.EqualEqual ∷ mark.NotEqual ∷ mark.LessEqual ∷ mark.GreaterEqual ∷ mark.ShiftLeft ∷ mark.ShiftRight ∷
+    mark.EqualEqual ∷ mark.NotEqual ∷ mark.LessEqual ∷ mark.GreaterEqual ∷ mark.ShiftLeft ∷
+    mark.ShiftRight ∷
     mark.AndAnd ∷ mark.OrOr ∷ mark.PlusPlus ∷ mark.MinusMinus ∷ mark.PlusEqual ∷ mark.MinusEqual ∷
     mark.StarEqual ∷ mark.SlashEqual ∷ mark.PercentEqual ∷ mark.AndEqual ∷ mark.OrEqual ∷ mark.CaretEqual ∷
-    mark.OpenRound ∷ mark.CloseRound ∷ mark.OpenSquare ∷ mark.CloseSquare ∷ mark.OpenCurly ∷ mark.CloseCurly ∷
-    mark.Semicolon ∷ mark.Comma ∷ mark.Question ∷ mark.Colon ∷ mark.Equal ∷ mark.Plus ∷ mark.Minus ∷ mark.Star ∷
+    mark.OpenRound ∷ mark.CloseRound ∷ mark.OpenSquare ∷ mark.CloseSquare ∷ mark.OpenCurly ∷
+    mark.CloseCurly ∷
+    mark.Semicolon ∷ mark.Comma ∷ mark.Question ∷ mark.Colon ∷ mark.Equal ∷ mark.Plus ∷
+    mark.Minus ∷ mark.Star ∷
     mark.Slash ∷ mark.Percent ∷ mark.And ∷ mark.Or ∷ mark.Caret ∷ mark.Tilde ∷ mark.Not ∷ mark.Less ∷
     mark.Greater ∷ []
 

@@ -17,7 +17,8 @@ is_waiting _ = false
 -- the other node ended otherwise than as waiting, and arrived at fewer barriers
 abbrev pub forsakes : List SourceEvent → (node other : ℕ) → Bool
 forsakes past node other =
-    is_some (ended other past) && (not (is_waiting (ended other past)) && nat_lt (arrivals other past) (arrivals node past))
+    is_some (ended other past)
+    && (not (is_waiting (ended other past)) && nat_lt (arrivals other past) (arrivals node past))
 
 -- the node did not end as waiting, or it stands at a barrier that can't be released
 abbrev pub is_forsaken : Processes → List SourceEvent → (node : ℕ) → Bool

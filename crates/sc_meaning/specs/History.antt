@@ -1,7 +1,7 @@
 -- Which lists of events are legal histories of a source: each node's own events are the requests of its run, in order,
--- each read shows the value last written, as in Lamport's sequential consistency ("How to make a multiprocessor computer
--- that correctly executes multiprocess programs", 1979), and the parts of issued transfers occur after their issue and
--- before what waits for them. A past is a list of events, the newest first.
+-- each read shows the value last written, as in Lamport's sequential consistency ("How to make a multiprocessor
+-- computer that correctly executes multiprocess programs", 1979), and the parts of issued transfers occur after their
+-- issue and before what waits for them. A past is a list of events, the newest first.
 use Rattle.std.specs.Prelude.{◌≡◌, ℕ, ◌+◌, ◌<◌, ◌≤◌, List, [], ◌∷◌, length, slice_get, Some, None, Bool, true, false}
 use Rattle.sc_base.specs.declared.value.Value.{Value}
 use Rattle.sc_base.specs.declared.value.Place.{Place}
@@ -20,7 +20,8 @@ use Rattle.sc_meaning.specs.Past.{Processes, effects, shown, releases, arrivals,
 -- every part of the node's requests of this kind so far has occurred
 abbrev pub AllDone : Processes → (Request → Bool) → ℕ → List SourceEvent → Type 0
 AllDone processes kind node past =
-    (number : ℕ) (request : Request) → request_at processes node number past ≡ Some request → kind request ≡ true
+    (number : ℕ) (request : Request) → request_at processes node number past ≡ Some request
+    → kind request ≡ true
     → AllOccurred (transfer_of request) node number (effects past)
 
 -- the node can do its next own event
@@ -34,19 +35,22 @@ pub record GoesOn (processes : Processes) (past : List SourceEvent) (node : ℕ)
   pub released : arrivals node past ≤ releases past
 
 -- the request is the node's next, and has this number
-pub record IsNext (processes : Processes) (past : List SourceEvent) (node number : ℕ) (request : Request) : Type 0 where
+pub record IsNext (processes : Processes) (past : List SourceEvent) (node number : ℕ)
+    (request : Request) : Type 0 where
   pub goes_on : GoesOn processes past node
   pub numbered : number ≡ made node past
   pub next : slice_get (run_so_far processes node past).events number ≡ Some request
 
 -- a blocking read is the node's next request, and shows what the place holds
-pub record ReadAllowed (processes : Processes) (past : List SourceEvent) (node number : ℕ) (place : Place) (value : Value) : Type 0 where
+pub record ReadAllowed (processes : Processes) (past : List SourceEvent) (node number : ℕ) (place : Place)
+    (value : Value) : Type 0 where
   pub line : ℕ
   pub is_next : IsNext processes past node number (Read place line)
   pub shows : value ≡ shown processes.start place past
 
 -- a blocking write is the node's next request, with that request's value
-pub record WriteAllowed (processes : Processes) (past : List SourceEvent) (node number : ℕ) (place : Place) (value : Value) : Type 0 where
+pub record WriteAllowed (processes : Processes) (past : List SourceEvent) (node number : ℕ) (place : Place)
+    (value : Value) : Type 0 where
   pub line : ℕ
   pub is_next : IsNext processes past node number (Write place value line)
 
@@ -58,7 +62,8 @@ pub record IssueAllowed (processes : Processes) (past : List SourceEvent) (node 
 
 -- A part of an issued transfer occurs once, at its place. A reading part shows what the place holds, and a writing part
 -- writes the request's value or what its cell was read as, after that reading.
-pub record EffectAllowed (processes : Processes) (past : List SourceEvent) (node number cell : ℕ) (wrote : Bool) (place : Place) (value : Value) : Type 0 where
+pub record EffectAllowed (processes : Processes) (past : List SourceEvent) (node number cell : ℕ) (wrote : Bool)
+    (place : Place) (value : Value) : Type 0 where
   pub node_within : node < processes.nodes
   pub request : Request
   pub made_before : request_at processes node number past ≡ Some request
@@ -78,7 +83,8 @@ abbrev pub barrier_of : (stores : Bool) → (line : ℕ) → Request
 barrier_of true line = AllStoreSync line
 barrier_of false line = Barrier line
 
-pub record ArriveAllowed (processes : Processes) (past : List SourceEvent) (node number : ℕ) (stores : Bool) : Type 0 where
+pub record ArriveAllowed (processes : Processes) (past : List SourceEvent) (node number : ℕ)
+    (stores : Bool) : Type 0 where
   pub line : ℕ
   pub is_next : IsNext processes past node number (barrier_of stores line)
 
@@ -88,7 +94,8 @@ pub record ReleaseAllowed (processes : Processes) (past : List SourceEvent) (num
   pub numbered : number ≡ releases past + 1
   pub all_arrived : (node : ℕ) → node < processes.nodes → number ≤ arrivals node past
   pub none_ended : (node : ℕ) → node < processes.nodes → ended node past ≡ None
-  pub stores_done : stores_at number past ≡ true → (node : ℕ) → node < processes.nodes → AllDone processes is_one_way node past
+  pub stores_done : stores_at number past ≡ true → (node : ℕ) → node < processes.nodes →
+      AllDone processes is_one_way node past
 
 -- a node ends after all its requests, as its run does
 pub record EndAllowed (processes : Processes) (past : List SourceEvent) (node : ℕ) (end : End) : Type 0 where
@@ -109,7 +116,8 @@ abbrev pub Allowed : Processes → List SourceEvent → SourceEvent → Type 0
 Allowed processes past (Do node request false place value) = ReadAllowed processes past node request place value
 Allowed processes past (Do node request true place value) = WriteAllowed processes past node request place value
 Allowed processes past (Issue node request) = IssueAllowed processes past node request
-Allowed processes past (Effect node request cell wrote place value) = EffectAllowed processes past node request cell wrote place value
+Allowed processes past (Effect node request cell wrote place value) =
+    EffectAllowed processes past node request cell wrote place value
 Allowed processes past (Sync node request) = SyncAllowed processes past node request
 Allowed processes past (Arrive node request stores) = ArriveAllowed processes past node request stores
 Allowed processes past (Release number) = ReleaseAllowed processes past number

@@ -12,3 +12,4 @@ pub mod Test
 pub mod CompleteTest
 pub mod Source
 pub mod OfAccess
+pub mod Answering

@@ -1,5 +1,5 @@
--- What a source makes a node do, over its core tree. Each step is passed at its point; points are numbered in the order in
--- which the text is evaluated, a `for`'s third expression behind its body. k is the number of the first point.
+-- What a source makes a node do, over its core tree. Each step is passed at its point; points are numbered as the text
+-- is evaluated, a `for`'s third expression behind its body. k is the number of the first point.
 use Rattle.std.specs.Prelude.{ℕ, zero, suc, ◌+◌, ◌-◌, pos, Option, Some, None, List, [], ◌∷◌, length, slice_get}
 use Rattle.resumption.specs.Resumption.{Makes, Stops}
 use Rattle.sc_base.specs.declared.limits.TheConstants.{LIMITS}
@@ -77,7 +77,8 @@ module _ (here : Setting) (call : Calls) where
         let u = t + 1 + size right in
         value pointer k (λ p m left. pass t (performed Read (p ∷ []) line (λ old.
         value right (t + 1) (λ by m left. pass u (performed operation (old ∷ by ∷ []) line (λ new m left.
-        pass (u + 1) (performed Write (p ∷ new ∷ []) line (taken_back back (u + 2) line go) m left)) m left))) m left)) m left
+        pass (u + 1) (performed Write (p ∷ new ∷ []) line (taken_back back (u + 2) line go) m left)) m left)))
+        m left)) m left
 
     pub values : Arguments → (k : ℕ) → (List Value → Rest) → Rest
     values none k go m left = go [] m left
@@ -137,7 +138,8 @@ module _ (here : Setting) where
   begun None budget = Stops Breaks
   begun (Some f) budget =
       body_of (calls_by (LIMITS.frames - 1)) (first_point here.program.functions here.program.main) f
-      (λ v m left. Stops (Finishes Ended)) (record { frames = entered [] (length f.others) ∷ []; getting = [] }) budget
+      (λ v m left. Stops (Finishes Ended))
+      (record { frames = entered [] (length f.others) ∷ []; getting = [] }) budget
 
   -- What the source makes the node do under the budget, with the points. The start of `splitc_main` is no call.
   abbrev pub pointed : (budget : ℕ) → PointedDoing

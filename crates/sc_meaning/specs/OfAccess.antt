@@ -39,7 +39,8 @@ written_as Covered blocking split one_way = blocking
 -- the request that an access is, with line 0: a journal has no lines
 abbrev pub request_in : Access → Request
 request_in (Read place track) = if is_blocking track then ReadRequest place 0 else Get place 0
-request_in (Write place value track) = written_as track (WriteRequest place value 0) (Put place value 0) (StoreRequest place value 0)
+request_in (Write place value track) =
+    written_as track (WriteRequest place value 0) (Put place value 0) (StoreRequest place value 0)
 request_in (Copy from to cells track) = CopyRequest from to cells (mode_of track) 0
 
 -- the request with line 0

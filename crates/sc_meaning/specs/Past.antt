@@ -1,6 +1,6 @@
 -- What a list of source events says: the effects, how far each node has come, and the answers that it shows, for the
--- split accesses, stores and barriers of "Introduction to Split-C" (Culler and others, 1995). A past is a list of events,
--- the newest first.
+-- split accesses, stores and barriers of "Introduction to Split-C" (Culler and others, 1995). A past is a list of
+-- events, the newest first.
 use Rattle.std.specs.Prelude.{ℕ, ◌+◌, List, [], ◌∷◌, ◌++◌, map, filter, Option, Some, None, pos, Bool, true, false, ◌==◌, ◌&&◌, ◌||◌, nat_lt, slice_get, if◌then◌else◌}
 use Rattle.std.specs.Option.{option_map_or}
 use Rattle.sc_base.specs.declared.value.Value.{Value}
@@ -45,7 +45,8 @@ releases (_ ∷ past) = releases past
 -- how often the node has arrived at a barrier
 abbrev pub arrivals : ℕ → List SourceEvent → ℕ
 arrivals node [] = 0
-arrivals node (Arrive other request stores ∷ past) = if other == node then arrivals node past + 1 else arrivals node past
+arrivals node (Arrive other request stores ∷ past) =
+    if other == node then arrivals node past + 1 else arrivals node past
 arrivals node (_ ∷ past) = arrivals node past
 
 -- some node's m-th arrival waits for stores
@@ -92,10 +93,13 @@ gets_among requests numbers = filter (λ number. option_map_or is_get (slice_get
 -- what the event answers to the node, which was given these answers before it. A release answers all that stand at
 -- its barrier, and an end as waiting finds its barrier broken.
 abbrev pub answer_to : Processes → ℕ → List Answer → List SourceEvent → SourceEvent → Option Answer
-answer_to processes node given past (Do other request false place value) = if other == node then Some (Shown value) else None
+answer_to processes node given past (Do other request false place value) =
+    if other == node then Some (Shown value) else None
 answer_to processes node given past (Sync other request) =
     if other == node
-    then Some (Landed (got node (effects past) (gets_among (run_of (processes.starts node) given).events (issued_since node past))))
+    then Some
+    (Landed (got node (effects past)
+    (gets_among (run_of (processes.starts node) given).events (issued_since node past))))
     else None
 answer_to processes node given past (Release number) = if arrivals node past == number then Some Passed else None
 answer_to processes node given past (Over other Waiting) = if other == node then Some Broken else None

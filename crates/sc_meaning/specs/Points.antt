@@ -1,5 +1,5 @@
--- The points of a core tree: one for each step, test, turn and return, and for each function one at its beginning and one at
--- its end. Point 0 is the start.
+-- The points of a core tree: one for each step, test, turn and return, and for each function one at its beginning and
+-- one at its end. Point 0 is the start.
 use Rattle.std.specs.Prelude.{ℕ, zero, suc, ◌+◌, Option, Some, None, List, [], ◌∷◌}
 use Rattle.sc_core.specs.declared.operation.Operation.{Operation}
 use Rattle.sc_core.specs.Core.{Core, constant, step, choice, update, Arguments, none, argument, Does, nothing, break, continue, then_, act, choose, loop, return, Function}

@@ -1,5 +1,6 @@
--- What a step does to a node: what it requests, and what comes after it. What comes after is a function of what the node
--- remembers and of how many turns and calls its budget leaves, as in Reynolds, "The discoveries of continuations" (1993).
+-- What a step does to a node: what it requests, and what comes after it. What comes after is a function of what the
+-- node remembers and of how many turns and calls its budget leaves, as in Reynolds, "The discoveries of continuations"
+-- (1993).
 use Rattle.std.specs.Prelude.{ℕ, zero, suc, pos, List, [], ◌∷◌, Bool, true, false}
 use Rattle.resumption.specs.Resumption.{Asks, Makes, Says, Stops}
 use Rattle.sc_base.specs.declared.value.CopyMode.{CopyMode}
@@ -71,7 +72,8 @@ decided_as (fails kind) on off = Stops Breaks
 decided_as wrong on off = Stops Breaks
 
 -- by a test, which is of a pointer where the first says so
-abbrev pub decided : Arrangement → (node : ℕ) → (of_pointer : Bool) → Value → (on off : PointedDoing) → PointedDoing
+abbrev pub decided : Arrangement → (node : ℕ) → (of_pointer : Bool) → Value →
+    (on off : PointedDoing) → PointedDoing
 decided layout node false v on off = decided_by v on off
 decided layout node true v on off = decided_as (computed layout node truth (v ∷ [])) on off
 
@@ -115,6 +117,7 @@ enact layout mode (sends place v) line rest m left = Makes (Requested (request.S
 enact layout mode (copies from to cells) line rest m left =
     Makes (Requested (request.Copy from to cells mode line)) (rest m left)
 enact layout mode (waits counter) line rest m left =
-    Asks (Requested (request.Sync line)) (fits_sync layout (places m)) (λ answer. rest (synced (landed_or_none answer) m) left)
+    Asks (Requested (request.Sync line)) (fits_sync layout (places m))
+    (λ answer. rest (synced (landed_or_none answer) m) left)
 enact layout mode (meets stores) line rest m left =
     Asks (Requested (barrier_request stores line)) fits_barrier (λ answer. unless_broken answer (rest m left))

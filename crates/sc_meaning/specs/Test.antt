@@ -57,14 +57,16 @@ part_over transfer node number cell wrote earlier =
 
 abbrev pub all_occurred : Transfer → (node number : ℕ) → List CellEffect → Bool
 all_occurred transfer node number earlier =
-    all_below transfer.cells (λ cell. part_over transfer node number cell false earlier && part_over transfer node number cell true earlier)
+    all_below transfer.cells (λ cell. part_over transfer node number cell false earlier
+    && part_over transfer node number cell true earlier)
 
 abbrev pub is_over : (Request → Bool) → (node number : ℕ) → List CellEffect → Request → Bool
 is_over kind node number earlier request = not (kind request) || all_occurred (transfer_of request) node number earlier
 
 abbrev pub all_done : Processes → (Request → Bool) → ℕ → List SourceEvent → Bool
 all_done processes kind node past =
-    all_below (made node past) (λ number. option_map_or (is_over kind node number (effects past)) (request_at processes node number past) true)
+    all_below (made node past) (λ number. option_map_or (is_over kind node number (effects past))
+    (request_at processes node number past) true)
 
 abbrev pub goes_on : Processes → List SourceEvent → ℕ → Bool
 goes_on processes past node =
@@ -95,7 +97,8 @@ is_barrier false (Barrier line) = true
 is_barrier stores _ = false
 
 -- the part of this request may occur
-abbrev pub may_occur : Processes → List SourceEvent → (node number cell : ℕ) → (wrote : Bool) → Place → Value → Request → Bool
+abbrev pub may_occur : Processes → List SourceEvent → (node number cell : ℕ) → (wrote : Bool) → Place →
+    Value → Request → Bool
 may_occur processes past node number cell wrote place value request =
     is_issued request && (holds_place place (part_place (transfer_of request) cell wrote)
     && (is_none (part_value node number cell wrote (effects past))
@@ -122,11 +125,14 @@ may_give_up processes past node =
 abbrev pub allowed : Processes → List SourceEvent → SourceEvent → Bool
 allowed processes past (Do node request false place value) =
     is_next processes past node request (is_read_of place) && same_value value (shown processes.start place past)
-allowed processes past (Do node request true place value) = is_next processes past node request (is_write_of place value)
+allowed processes past (Do node request true place value) =
+    is_next processes past node request (is_write_of place value)
 allowed processes past (Issue node request) = is_next processes past node request is_issued
 allowed processes past (Effect node request cell wrote place value) =
-    nat_lt node processes.nodes && option_map_or (may_occur processes past node request cell wrote place value) (request_at processes node request past) false
-allowed processes past (Sync node request) = is_next processes past node request is_sync && all_done processes is_split node past
+    nat_lt node processes.nodes && option_map_or (may_occur processes past node request cell wrote place value)
+    (request_at processes node request past) false
+allowed processes past (Sync node request) = is_next processes past node request is_sync
+    && all_done processes is_split node past
 allowed processes past (Arrive node request stores) = is_next processes past node request (is_barrier stores)
 allowed processes past (Release number) = may_release processes past number
 allowed processes past (Over node Waiting) = may_give_up processes past node

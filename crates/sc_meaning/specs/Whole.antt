@@ -26,7 +26,8 @@ pub record Complete (processes : Processes) (past : List SourceEvent) : Type 0 w
   -- every part of every issued transfer has occurred
   pub all_done : (node : ℕ) → node < processes.nodes → AllDone processes is_issued node past
   -- a node ends as waiting only at a barrier that can't be released
-  pub forsaken : (node : ℕ) → node < processes.nodes → ended node past ≡ Some Waiting → IsForsaken processes past node
+  pub forsaken : (node : ℕ) → node < processes.nodes → ended node past ≡ Some Waiting →
+      IsForsaken processes past node
 
 -- a whole history, in the order of its events
 pub record IsHistory (processes : Processes) (history : List SourceEvent) : Type 0 where

@@ -14,8 +14,10 @@ pub record HasDone (start : SourceDoing) (given : List Answer) (requests : List 
 -- a node is followed step by step, and never begun anew
 pub record CoursesGoOn : Type 0 where
   pub begins : (start : SourceDoing) → HasDone start [] [] [] start
-  pub says : (start : SourceDoing) (given : List Answer) (requests : List Request) (text : List ℕ) (rest : SourceDoing)
-      → HasDone start given requests text rest → HasDone start given requests (text ++ next_text rest) (past_text rest)
+  pub says : (start : SourceDoing) (given : List Answer) (requests : List Request) (text : List ℕ)
+      (rest : SourceDoing)
+      → HasDone start given requests text rest →
+      HasDone start given requests (text ++ next_text rest) (past_text rest)
   pub makes : (start : SourceDoing) (given : List Answer) (requests : List Request) (text : List ℕ) (r : Request)
       (rest : SourceDoing)
       → HasDone start given requests text (Makes r rest) → HasDone start given (requests ++ r ∷ []) text rest

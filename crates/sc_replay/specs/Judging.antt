@@ -19,8 +19,8 @@ cell_in cells place =
     option_and_then (λ values. slice_get values place.offset)
     (option_and_then (λ objects. slice_get objects place.object) (slice_get cells place.node))
 
--- the code's outcome tells, of each node, its end and its text, and of each place of the layout, and of no other, what it
--- holds
+-- the code's outcome tells, of each node, its end and its text, and of each place of the layout, and of no other, what
+-- it holds
 pub record Tells (layout : Arrangement) (shown : whole.Outcome) (told : Outcome) : Type 0 where
   pub all_ends : length told.ends ≡ layout.nodes
   pub ends : (node : ℕ) → node < layout.nodes → slice_get told.ends node ≡ shown.ends node

@@ -13,7 +13,15 @@ plain_block all = statements_of (map plain_stmt all)
 
 abbrev pub plain_function : Function → PlainFunction
 plain_function f =
-    record { name = f.name; result = f.result; params = f.params; body = option_map plain_block f.body; at = f.at; line = f.line }
+    record {
+      name = f.name;
+      result = f.result;
+      params = f.params;
+      body = option_map plain_block f.body;
+      at = f.at;
+      line = f.line;
+    }
 
 abbrev pub plain_tree : Tree → PlainTree
-plain_tree t = record { objects = t.objects; functions = map plain_function t.functions; lines = t.lines; last = t.last }
+plain_tree t =
+    record { objects = t.objects; functions = map plain_function t.functions; lines = t.lines; last = t.last }

@@ -66,13 +66,17 @@ abbrev pub typed_link_step : TypedLink-F TypedForm TypedTail TypedExpression Typ
 typed_link_step l = link l.op l.e l.at l.line
 
 abbrev pub plain_typed_kind : TypedKind → TypedForm
-plain_typed_kind = fold-TypedKind TypedForm TypedTail TypedExpression TypedLink typed_kind_step typed_tail_step typed_expr_step typed_link_step
+plain_typed_kind = fold-TypedKind TypedForm TypedTail TypedExpression TypedLink typed_kind_step typed_tail_step
+    typed_expr_step typed_link_step
 
 abbrev pub plain_typed_tail : CodeTail → TypedTail
-plain_typed_tail = fold-TypedTail TypedForm TypedTail TypedExpression TypedLink typed_kind_step typed_tail_step typed_expr_step typed_link_step
+plain_typed_tail = fold-TypedTail TypedForm TypedTail TypedExpression TypedLink typed_kind_step typed_tail_step
+    typed_expr_step typed_link_step
 
 abbrev pub plain_typed : TypedExpr → TypedExpression
-plain_typed = fold-TypedExpr TypedForm TypedTail TypedExpression TypedLink typed_kind_step typed_tail_step typed_expr_step typed_link_step
+plain_typed = fold-TypedExpr TypedForm TypedTail TypedExpression TypedLink typed_kind_step typed_tail_step
+    typed_expr_step typed_link_step
 
 abbrev pub plain_typed_link : CodeLink → TypedLink
-plain_typed_link = fold-TypedLink TypedForm TypedTail TypedExpression TypedLink typed_kind_step typed_tail_step typed_expr_step typed_link_step
+plain_typed_link = fold-TypedLink TypedForm TypedTail TypedExpression TypedLink typed_kind_step typed_tail_step
+    typed_expr_step typed_link_step

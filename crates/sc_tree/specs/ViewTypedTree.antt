@@ -13,8 +13,21 @@ plain_typed_block all = typed_statements_of (map plain_typed_stmt all)
 
 abbrev pub plain_typed_function : TypedFunction → PlainTypedFunction
 plain_typed_function f =
-    record { name = f.name; result = f.result; params = f.params; body = option_map plain_typed_block f.body; at = f.at; line = f.line }
+    record {
+      name = f.name;
+      result = f.result;
+      params = f.params;
+      body = option_map plain_typed_block f.body;
+      at = f.at;
+      line = f.line;
+    }
 
 abbrev pub plain_typed_tree : Typed → PlainTypedTree
 plain_typed_tree t =
-    record { objects = t.objects; functions = map plain_typed_function t.functions; lines = t.lines; last = t.last; texts = t.texts }
+    record {
+      objects = t.objects;
+      functions = map plain_typed_function t.functions;
+      lines = t.lines;
+      last = t.last;
+      texts = t.texts;
+    }

@@ -29,7 +29,8 @@ abbrev pub breach : (at : ℕ) → Rule → Breach
 breach at rule = record { at = at; rule = rule }
 
 -- Rules that an expression breaks itself, whatever its operands break. Its own token is `at`.
-pub data Breaks (c : Source) (locals : List InScope) (indices : ℕ) (start at line : ℕ) : Kind → Breach → Type 0 where
+pub data Breaks (c : Source) (locals : List InScope) (indices : ℕ) (start at line : ℕ) : Kind →
+    Breach → Type 0 where
   undeclared : {n : ℕ} →
       NameRules.is_declared c locals n ≡ false →
       Breaks c locals indices start at line (name n) (breach at rules.Declared)

@@ -92,7 +92,12 @@ row_of op = row_at (level_of op)
 -- a chain of the left operand, the operator and the right one, with its type
 abbrev pub pushed : Operands → Binary → Ty → (at line : ℕ) → Linked
 pushed o op ty at line =
-    record { first = o.left.first; rest = o.left.rest ++ typed.link op o.right at line ∷ []; ty = ty; is_null = false }
+    record {
+      first = o.left.first;
+      rest = o.left.rest ++ typed.link op o.right at line ∷ [];
+      ty = ty;
+      is_null = false;
+    }
 
 -- the link behind the chain
 abbrev pub with_link : Row → Linked → Binary → (at line : ℕ) → Valued → Linked

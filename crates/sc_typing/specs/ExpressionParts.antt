@@ -53,7 +53,8 @@ begun_tails c locals first rest = begin_tails (judge c locals (leading rest) fir
 -- An operand, with how many indices stand directly behind it. Each is used as a value.
 pub data IsOperand (c : Source) (locals : List InScope) : Kind → (indices : ℕ) → Expression → Type 0 where
   chain_first : {first : Expression} {rest : Links} → IsOperand c locals (chain first rest) 0 first
-  chain_link : {first : Expression} {rest : Links} {left : Option Linked} {op : Binary} {e : Expression} {at line : ℕ} →
+  chain_link : {first : Expression} {rest : Links} {left : Option Linked} {op : Binary} {e : Expression}
+      {at line : ℕ} →
       IsLink c locals left (link op e at line) (begun_chain c locals first) rest →
       IsOperand c locals (chain first rest) 0 e
   of_both : {all : Expressions} {e : Expression} → Among e all → IsOperand c locals (both all) 0 e

@@ -112,7 +112,8 @@ choice_value test spot ty a b =
 abbrev pub chosen_value : Spot → Valued → Valued → Valued → Valued
 chosen_value spot t a b = choice_value (expression_of t) spot (common a.ty a.is_null b.ty) a b
 
-abbrev pub all_of : (Valued → Valued → Valued → Valued) → Option Valued → Option Valued → Option Valued → Option Valued
+abbrev pub all_of : (Valued → Valued → Valued → Valued) → Option Valued → Option Valued →
+    Option Valued → Option Valued
 all_of f None on off = None
 all_of f (Some t) on off = both_of (f t) on off
 

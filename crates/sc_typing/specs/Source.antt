@@ -40,7 +40,8 @@ library_text lib.BulkStore = codes "bulk_store"
 
 abbrev pub libraries : List Library
 libraries =
-    lib.Printf ∷ lib.Sync ∷ lib.Barrier ∷ lib.AllStoreSync ∷ lib.ToGlobal ∷ lib.ToProc ∷ lib.ToLocal ∷ lib.BulkRead ∷
+    lib.Printf ∷ lib.Sync ∷ lib.Barrier ∷ lib.AllStoreSync ∷ lib.ToGlobal ∷ lib.ToProc ∷ lib.ToLocal ∷
+    lib.BulkRead ∷
     lib.BulkWrite ∷ lib.BulkGet ∷ lib.BulkPut ∷ lib.BulkStore ∷ []
 
 -- the function of the library that the text names

@@ -40,7 +40,12 @@ value_so_far t = record { expression = t.first; ty = t.ty; is_null = t.is_null; 
 -- an index of the object itself leaves the type and the place that the object is with all of them
 abbrev pub with_own_index : (at line : ℕ) → Tailed → Valued → Tailed
 with_own_index at line t v =
-    record { first = t.first; rest = t.rest ++ typed.index (expression_of v) at line ∷ []; ty = t.ty; is_null = false }
+    record {
+      first = t.first;
+      rest = t.rest ++ typed.index (expression_of v) at line ∷ [];
+      ty = t.ty;
+      is_null = false;
+    }
 
 abbrev pub indexed : (at line : ℕ) → Tailed → TypedExpression → Tailed
 indexed at line t e =

@@ -76,25 +76,25 @@ leads_as Goes P Q h a b (zs, path) = (zs, path_as Goes P Q h a zs b path)
 abbrev StopRow : List Bool → Bits → Type 0
 StopRow stops row = IsOf 1 (length stops) (λ r t. get_or stops t false ≡ true) row
 
-free_from : (stops : List Bool) (row : Bits) (z : ℕ) → StopRow stops row → (IsSet row 0 z → ⊥) → get_or stops z false ≡ false
-free_from stops row z b h =
+free_from : (stops : List Bool) (bits : Bits) (z : ℕ) → StopRow stops bits → (IsSet bits 0 z → ⊥) → get_or stops z false ≡ false
+free_from stops bits z b h =
     ⊎_elim (λ l. false_from_ne_true _ (λ t. h ((b.pairs 0 z).1 (omega arith, l, t)))) (λ l. get_or_past stops z false l) (cases_lt z (length stops))
 
-free_to : (stops : List Bool) (row : Bits) (z : ℕ) → StopRow stops row → get_or stops z false ≡ false → IsSet row 0 z → ⊥
-free_to stops row z b f s = both_ways _ f ((b.pairs 0 z).0 s).2
+free_to : (stops : List Bool) (bits : Bits) (z : ℕ) → StopRow stops bits → get_or stops z false ≡ false → IsSet bits 0 z → ⊥
+free_to stops bits z b f s = both_ways _ f ((b.pairs 0 z).0 s).2
 
-pub reaches_from : (graph : Graph) (stops : List Bool) (row : Bits) (a t : ℕ) → StopRow stops row → ReachesBy graph row 0 a t → Reaches graph stops a t
-reaches_from graph stops row a t b p =
-    leads_as (Goes graph) (λ z. IsSet row 0 z → ⊥) (λ z. get_or stops z false ≡ false) (λ z h. free_from stops row z b h) a t p
+pub reaches_from : (graph : Graph) (stops : List Bool) (bits : Bits) (a t : ℕ) → StopRow stops bits → ReachesBy graph bits 0 a t → Reaches graph stops a t
+reaches_from graph stops bits a t b p =
+    leads_as (Goes graph) (λ z. IsSet bits 0 z → ⊥) (λ z. get_or stops z false ≡ false) (λ z h. free_from stops bits z b h) a t p
 
-pub reaches_to : (graph : Graph) (stops : List Bool) (row : Bits) (a t : ℕ) → StopRow stops row → Reaches graph stops a t → ReachesBy graph row 0 a t
-reaches_to graph stops row a t b p =
-    leads_as (Goes graph) (λ z. get_or stops z false ≡ false) (λ z. IsSet row 0 z → ⊥) (λ z h. free_to stops row z b h) a t p
+pub reaches_to : (graph : Graph) (stops : List Bool) (bits : Bits) (a t : ℕ) → StopRow stops bits → Reaches graph stops a t → ReachesBy graph bits 0 a t
+reaches_to graph stops bits a t b p =
+    leads_as (Goes graph) (λ z. get_or stops z false ≡ false) (λ z. IsSet bits 0 z → ⊥) (λ z h. free_to stops bits z b h) a t p
 
 -- ---- starting points, one after another
 
 abbrev ReachedTo : Graph → (starts : List ℕ) → (stops : List Bool) → (count : ℕ) → ℕ → ℕ → Type 0
-ReachedTo graph starts stops count row t = (row < count) × Reaches graph stops (get_or starts row 0) t
+ReachedTo graph starts stops count r t = (r < count) × Reaches graph stops (get_or starts r 0) t
 
 pub more_reached : (graph : Graph) (starts : List ℕ) (stops : List Bool) (stop_row found old new : Bits) (n start : ℕ) → StopRow stops stop_row
     → IsOf (length starts) (length graph.points) (ReachedTo graph starts stops n) old → n < length starts → start ≡ get_or starts n 0
@@ -126,7 +126,7 @@ more_reached graph starts stops stop_row found old new n start b o l e f w = rec
 pub all_reached : (graph : Graph) (starts : List ℕ) (stops : List Bool) (bits : Bits) (n : ℕ) → IsOf (length starts) (length graph.points) (ReachedTo graph starts stops n) bits
     → length starts ≤ n → AreReachedFrom graph starts stops bits
 all_reached graph starts stops bits n b l =
-    as_bits (length starts) (length graph.points) (ReachedTo graph starts stops n) (λ row t. Reaches graph stops (get_or starts row 0) t) bits b
+    as_bits (length starts) (length graph.points) (ReachedTo graph starts stops n) (λ r t. Reaches graph stops (get_or starts r 0) t) bits b
     (λ r c h k q. q.1) (λ r c h k q. (omega (arith, h, l), q))
 
 -- from all points
@@ -137,7 +137,7 @@ from_all graph starts stops bits n e f b =
     let at_self : (r : ℕ) → r < length graph.points → get_or starts r 0 ≡ r =
     λ r h. ap (λ xs. get_or xs r 0) e ∙ (get_or-range_with_len 0 n r 0 (omega arith) ∙ zero-add r) in
     subst (λ m. IsOf m (length graph.points) (Reaches graph stops) bits) long
-    (as_bits (length starts) (length graph.points) (λ row t. Reaches graph stops (get_or starts row 0) t) (Reaches graph stops) bits b
+    (as_bits (length starts) (length graph.points) (λ r t. Reaches graph stops (get_or starts r 0) t) (Reaches graph stops) bits b
     (λ r c h k q. subst (λ x. Reaches graph stops x c) (at_self r (omega arith)) q)
     (λ r c h k q. subst (λ x. Reaches graph stops x c) (sym (at_self r (omega arith))) q))
 

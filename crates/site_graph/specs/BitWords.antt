@@ -28,7 +28,8 @@ bits_of inside = record {
 -- there are words for all rows, and past the last column no bit is set
 pub record AreRows (inside : Inside) : Type 0 where
   pub many : length inside.words.items ≡ inside.rows * words_a_row inside.columns
-  pub rest : (row column : ℕ) → row < inside.rows → inside.columns ≤ column → column < 64 * words_a_row inside.columns →
+  pub rest : (row column : ℕ) → row < inside.rows → inside.columns ≤ column →
+      column < 64 * words_a_row inside.columns →
       is_set inside row column ≡ false
 
 -- ---- changes of words

@@ -45,7 +45,8 @@ pub record IsJoined (row from : ℕ) (old new : Bits) : Type 0 where
 abbrev pub Gains : (row from : ℕ) → Bits → Type 0
 Gains row from bits = (column : ℕ) × IsSet bits from column × (IsSet bits row column → ⊥)
 
--- the second is the first with what is set both in the row `a_row` of a and in the row `b_row` of b in the row `row` too
+-- the second is the first with what is set both in the row `a_row` of a and in the row `b_row` of b in the row `row`
+-- too
 pub record IsWithCommon (row : ℕ) (a : Bits) (a_row : ℕ) (b : Bits) (b_row : ℕ) (old new : Bits) : Type 0 where
   pub same_rows : new.rows ≡ old.rows
   pub same_columns : new.columns ≡ old.columns

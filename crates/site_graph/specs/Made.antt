@@ -26,7 +26,8 @@ AccessWithin kind sites = (number : ℕ) → kind ≡ Access number → IsOneOf 
 
 abbrev pub IsPoint : Point → (t sites : ℕ) → Type 0
 IsPoint p t sites =
-    StartsAt p.kind t × All (IsOneOf sites) p.takes × IsRising ltb p.takes × IsRising ltb p.reads × AccessWithin p.kind sites
+    StartsAt p.kind t × All (IsOneOf sites) p.takes × IsRising ltb p.takes × IsRising ltb p.reads
+    × AccessWithin p.kind sites
 
 -- each of the points before the n-th
 abbrev pub ArePoints : List Point → (n sites : ℕ) → Type 0

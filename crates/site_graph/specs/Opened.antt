@@ -19,12 +19,12 @@ abbrev pub has : List (ℕ × ℕ) → (row column : ℕ) → Bool
 has [] r c = false
 has (p ∷ ps) r c = ((p.0 == r) && (p.1 == c)) || has ps r c
 
--- how many of so many columns are not set in row 0
+-- how many of so many columns are not set in the first row
 abbrev pub unset : Bits → (columns : ℕ) → ℕ
 unset bits zero = 0
 unset bits (suc n) = unset bits n + (if has bits.set 0 n then 0 else 1)
 
--- the points with T are set in row 0, and those that were not set before are added to the list
+-- the points with T are set in the first row, and those that were not set before are added to the list
 pub record IsOpened (T : ℕ → Type 0) (old new : Bits) (before after : List ℕ) : Type 0 where
   pub same_rows : new.rows ≡ old.rows
   pub same_columns : new.columns ≡ old.columns

@@ -41,7 +41,8 @@ order_flow graph own across meets = record {
 pub record IsOfOrder (graph : Graph) (flow : order.Flow ℕ) : Type 0 where
   pub path : (a b : ℕ) → Path graph a b ↔ order.Path flow a b
   pub clear : (a b : ℕ) → Clear graph a b ↔ order.Clear flow a b
-  pub precedes : (a b t u : ℕ) → IsAt graph a t → IsAt graph b u → Precedes graph a b ↔ order.Precedes flow t u
+  pub precedes : (a b t u : ℕ) → IsAt graph a t → IsAt graph b u → Precedes graph a b
+      ↔ order.Precedes flow t u
 
 -- whichever points conflict and meet
 abbrev pub WaysAreOfOrder : Type 0

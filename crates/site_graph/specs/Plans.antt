@@ -1,5 +1,5 @@
--- Plans: where code waits for which accesses, and what has to be waited for. Waits stand where they are first demanded, after
--- Krishnamurthy and Yelick, "Optimizing parallel programs with explicit synchronization" (1995).
+-- Plans: where code waits for which accesses, and what has to be waited for. Waits stand where they are first
+-- demanded, after Krishnamurthy and Yelick, "Optimizing parallel programs with explicit synchronization" (1995).
 use Rattle.std.specs.Prelude.{◌≡◌, ◌↔◌, ◌⊎◌, ℕ, ◌<◌, List, [], ◌∷◌, ◌++◌, length, ltb, Some, true, All, Contains, slice_get, slice_index_or}
 use Rattle.effect_order.specs.Flow.{PathBy}
 use Rattle.site_graph.specs.declared.plan.Plan.{Plan}
@@ -20,7 +20,8 @@ waits_at plan t = slice_index_or plan.waits t []
 abbrev pub IsFirst : Graph → (point : ℕ) → Type 0
 IsFirst graph t =
     (p : Point) → slice_get graph.points t ≡ Some p
-    → (p.kind ≡ Start) ⊎ ((u : ℕ) (q : Point) → u < t → slice_get graph.points u ≡ Some q → q.function ≡ p.function → q.kind ≡ Start)
+    → (p.kind ≡ Start) ⊎ ((u : ℕ) (q : Point) → u < t → slice_get graph.points u ≡ Some q →
+    q.function ≡ p.function → q.kind ≡ Start)
 
 -- a plan of the flow
 pub record IsPlan (graph : Graph) (plan : Plan) : Type 0 where
@@ -38,17 +39,20 @@ pub record IsPlan (graph : Graph) (plan : Plan) : Type 0 where
 -- writes, and at a return each filled local of its function.
 pub data Uses (graph : Graph) (site t : ℕ) : Type 0 where
   takes : (p : Point) → slice_get graph.points t ≡ Some p → Contains p.takes site → Uses graph site t
-  names : (s : Site) (local a : ℕ) (p q : Point) → site_at graph site ≡ Some s → s.fills ≡ Some local → IsAt graph site a
+  names : (s : Site) (local a : ℕ) (p q : Point) → site_at graph site ≡ Some s → s.fills ≡ Some local
+      → IsAt graph site a
       → slice_get graph.points a ≡ Some p → slice_get graph.points t ≡ Some q → p.function ≡ q.function
       → Contains q.reads local ⊎ (q.writes ≡ Some local) → Uses graph site t
-  returns : (s : Site) (local a : ℕ) (p q : Point) → site_at graph site ≡ Some s → s.fills ≡ Some local → IsAt graph site a
+  returns : (s : Site) (local a : ℕ) (p q : Point) → site_at graph site ≡ Some s → s.fills ≡ Some local
+      → IsAt graph site a
       → slice_get graph.points a ≡ Some p → slice_get graph.points t ≡ Some q → p.function ≡ q.function
       → q.kind ≡ Return → Uses graph site t
 
 -- on each path from a read to the first point that uses what it fetches, code waits for it behind the read
 abbrev pub WaitsInTime : Graph → Plan → Type 0
 WaitsInTime graph plan =
-    (site a t : ℕ) (s : Site) (inner : List ℕ) → site_at graph site ≡ Some s → s.kind ≡ Read → IsAt graph site a
+    (site a t : ℕ) (s : Site) (inner : List ℕ) → site_at graph site ≡ Some s → s.kind ≡ Read
+    → IsAt graph site a
     → PathBy (Goes graph) (λ z. Uses graph site z → ⊥) a inner t → Uses graph site t
     → (u : ℕ) × Contains (inner ++ t ∷ []) u × Contains (waits_at plan u) site
 
@@ -61,7 +65,8 @@ Blocks graph site = (s : Site) × (site_at graph site ≡ Some s) × (is_blockin
 -- each point waits for the blocking sites from whose points an edge leads to it, and no write is sent one-way
 pub record IsPlainPlan (graph : Graph) (plan : Plan) : Type 0 where
   pub is_plan : IsPlan graph plan
-  pub waits : (t site : ℕ) → Contains (waits_at plan t) site ↔ (Blocks graph site × ((a : ℕ) × IsAt graph site a × Goes graph a t))
+  pub waits : (t site : ℕ) → Contains (waits_at plan t) site
+      ↔ (Blocks graph site × ((a : ℕ) × IsAt graph site a × Goes graph a t))
   pub none_one_way : plan.oneway ≡ []
 
 abbrev pub PlainPlansWaitInTime : Type 0

@@ -17,7 +17,7 @@ AreReached graph stops bits = IsOf (length graph.points) (length graph.points) (
 -- from each of the points of a list, the row being its place there, to each that it reaches
 abbrev pub AreReachedFrom : Graph → (starts : List ℕ) → (stops : List Bool) → Bits → Type 0
 AreReachedFrom graph starts stops bits =
-    IsOf (length starts) (length graph.points) (λ row t. Reaches graph stops (slice_index_or starts row 0) t) bits
+    IsOf (length starts) (length graph.points) (λ r t. Reaches graph stops (slice_index_or starts r 0) t) bits
 
 -- the same, where the points at which a path stops are those of a row of bits
 abbrev pub ReachesBy : Graph → (stops : Bits) → (row : ℕ) → ℕ → ℕ → Type 0
@@ -32,4 +32,5 @@ AreReachedFromAny graph starts stops row bits =
 pub record AreFirsts (graph : Graph) (firsts : List ℕ) : Type 0 where
   pub count : length firsts ≡ length graph.points + 1
   pub within : (p : ℕ) → p ≤ length graph.points → slice_index firsts p ≤ length graph.edges
-  pub below : (p k : ℕ) (e : Edge) → p ≤ length graph.points → slice_get graph.edges k ≡ Some e → (k < slice_index firsts p) ↔ (e.from < p)
+  pub below : (p k : ℕ) (e : Edge) → p ≤ length graph.points → slice_get graph.edges k ≡ Some e →
+      (k < slice_index firsts p) ↔ (e.from < p)

@@ -22,7 +22,7 @@ use Rattle.fabric.specs.Barriers.{arrivals, passes, finished}
 use Rattle.fabric.specs.Wired.{EntryWired, Wired}
 use Rattle.source_order.specs.Steps.{request_by, count_one, requested, and_request, own_requests}
 use Rattle.sc_meaning.specs.OfAccess.{request_in, is_blocking}
-use Rattle.source_order.specs.Answering.{is_answered}
+use Rattle.sc_meaning.specs.Answering.{is_answered}
 use Rattle.source_order.specs.Made.{answer_of_issue, answer_by, answers_in}
 use Rattle.source_order.proofs.Stands.{Stands, wired_at, own_length}
 use Rattle.source_order.proofs.Asked.{one_if, asks, asks_front, asks_next}

@@ -4,7 +4,7 @@ use Rattle.std.specs.Prelude.{slice_get}
 use Rattle.sc_meaning.specs.declared.request.Request.{Request}
 use Rattle.sc_meaning.specs.declared.request.Request.TheVariants as ask
 use Rattle.sc_meaning.specs.OfAccess.{unlined}
-use Rattle.source_order.specs.Answering.{is_answered}
+use Rattle.sc_meaning.specs.Answering.{is_answered}
 
 abbrev pub one_if : Bool → ℕ
 one_if true = 1

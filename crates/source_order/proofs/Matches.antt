@@ -24,7 +24,7 @@ use Rattle.fabric.specs.Wired.{Wired, AllDone}
 use Rattle.source_order.specs.Steps.{own_requests, requested, request_by, track_at}
 use Rattle.sc_meaning.specs.OfAccess.{is_blocking, is_split, is_done_at_once, request_in, unlined}
 use Rattle.source_order.specs.Made.{run_in}
-use Rattle.source_order.specs.Answering.{AllWaitForAnswers}
+use Rattle.sc_meaning.specs.Answering.{AllWaitForAnswers}
 use Rattle.source_order.proofs.Stands.{Stands, own_at, requested_below}
 use Rattle.source_order.proofs.Numbers.{eq_self, if_true, if_false, issued_is}
 

@@ -4,7 +4,7 @@ use Rattle.sc_meaning.specs.declared.request.Request.{Request}
 use Rattle.sc_meaning.specs.Past.{Processes}
 use Rattle.sc_isa.specs.declared.journal.Entry.{Entry}
 use Rattle.source_order.specs.Steps.{request_by, and_request, own_requests, requested}
-use Rattle.source_order.specs.Answering.{is_answered}
+use Rattle.sc_meaning.specs.Answering.{is_answered}
 use Rattle.source_order.proofs.Stands.{Stands, own_length, own_at, requested_below}
 use Rattle.source_order.proofs.Asked.{one_if, asks, asks_front, asks_next, asks_unlined}
 use Rattle.source_order.proofs.Matches.{Known}

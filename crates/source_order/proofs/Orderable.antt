@@ -11,7 +11,7 @@ use Rattle.source_order.specs.Story.{ItemsAreOrderable}
 use Rattle.source_order.proofs.Distinct.{items_distinct}
 use Rattle.source_order.proofs.Shown.{items_in_order, items_shown}
 use Rattle.source_order.proofs.Matches.{Known}
-use Rattle.source_order.specs.Answering.{AllWaitForAnswers}
+use Rattle.sc_meaning.specs.Answering.{AllWaitForAnswers}
 use Rattle.source_order.proofs.Exactly.{allowed_is}
 
 pub known_run : (processes : Processes) (machine : Machine) (journal : List Entry) → AllWaitForAnswers processes → IsRun machine journal → IsMade processes machine (reverse journal) → Known processes (reverse journal)

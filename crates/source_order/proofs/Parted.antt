@@ -22,7 +22,7 @@ use Rattle.source_order.proofs.Occurs.{some_is, part_of, part_self, found, its_v
 use Rattle.source_order.proofs.Effected.{same_effect}
 use Rattle.source_order.proofs.Character.{IsAccess, an_effect}
 use Rattle.source_order.proofs.Matches.{Known}
-use Rattle.source_order.specs.Answering.{WaitsForAnswers}
+use Rattle.sc_meaning.specs.Answering.{WaitsForAnswers}
 use Rattle.source_order.proofs.Asked.{asks}
 use Rattle.source_order.proofs.Prefixes.{same_request}
 use Rattle.source_order.proofs.Taken.{It, E, Took, took_it, effect_event, event_effect, some_value, same_issue}

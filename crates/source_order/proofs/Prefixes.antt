@@ -4,7 +4,7 @@ use Rattle.std.specs.Prelude.{if◌then◌else◌, slice_get}
 use Rattle.resumption.specs.Resumption.{Asks, Makes, Says, Stops, RunOf, unanswered, after_event, after_text, run_of}
 use Rattle.sc_meaning.specs.declared.request.Request.{Request}
 use Rattle.sc_meaning.specs.Asking.{Answer, Halt, SourceDoing}
-use Rattle.source_order.specs.Answering.{is_answered, WaitsForAnswers}
+use Rattle.sc_meaning.specs.Answering.{is_answered, WaitsForAnswers}
 use Rattle.source_order.proofs.Asked.{one_if, asks}
 
 abbrev Run : Type 0

@@ -29,7 +29,7 @@ use Rattle.source_order.proofs.Answered.{issue_answer}
 use Rattle.source_order.proofs.Character.{IsAccess}
 use Rattle.source_order.proofs.Matches.{Known}
 use Rattle.source_order.proofs.Taken.{E}
-use Rattle.source_order.specs.Answering.{is_answered}
+use Rattle.sc_meaning.specs.Answering.{is_answered}
 use Rattle.source_order.proofs.Asked.{one_if, asks, asks_grow}
 use Rattle.source_order.proofs.Parted.{Full, Needed, Begun}
 use Rattle.source_order.proofs.Needed.{needed_before, needed_with}

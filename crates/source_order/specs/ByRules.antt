@@ -1,5 +1,5 @@
--- The items of a run by their kinds, as the three rules of a source order take them: each node's own steps, of which a blocking
--- read or write is its effect; releases by number; and effects in the order of the run.
+-- The items of a run by their kinds, as the three rules of a source order take them: each node's own steps, of which a
+-- blocking read or write is its effect; releases by number; and effects in the order of the run.
 use Rattle.std.specs.Prelude.{ℕ, Bool, List, [], ◌∷◌, ◌++◌, Option, Some, None, reverse, ◌==◌, ◌&&◌, if◌then◌else◌}
 use Rattle.sc_base.specs.declared.value.Place.{Place}
 use Rattle.sc_base.specs.declared.value.Value.{Value}
@@ -16,7 +16,7 @@ use Rattle.fabric.specs.Barriers.{released}
 use Rattle.fabric.specs.Asked.{Machine}
 use Rattle.source_order.specs.Moments.{does, event_of}
 use Rattle.source_order.specs.Items.{step_by, all_releases, all_effects, source_order}
-use Rattle.source_order.specs.Answering.{AllWaitForAnswers}
+use Rattle.sc_meaning.specs.Answering.{AllWaitForAnswers}
 use Rattle.source_order.specs.Whole.{IsRun}
 use Rattle.source_order.specs.Made.{IsMade}
 use Rattle.source_order.specs.Story.{is_effect}
@@ -28,7 +28,8 @@ is_of node number effect = (effect.node == node) && (effect.number == number)
 -- the effect of the node's access with this number, of an access of one cell
 abbrev pub effect_of : (node number : ℕ) → List Effect → Option Effect
 effect_of node number [] = None
-effect_of node number (effect ∷ earlier) = if is_of node number effect then Some effect else effect_of node number earlier
+effect_of node number (effect ∷ earlier) = if is_of node number effect then Some effect
+    else effect_of node number earlier
 
 module _ (start : Place → Value) (whole : List Entry) where
   abbrev pub event_if : Option Effect → List SourceEvent
@@ -56,8 +57,9 @@ sorted processes whole = record {
   effects = all_effects processes.start whole;
 }
 
--- The source order is exactly what the rules give: the next own step, but for effects, of the least node for which it is
--- allowed; else the next release; else the first effect that is allowed and before which no conflicting one is left.
+-- The source order is exactly what the rules give: the next own step, but for effects, of the least node for which it
+-- is allowed; else the next release; else the first effect that is allowed and before which no conflicting one is
+-- left.
 abbrev pub OrderIsByRules : Type 0
 OrderIsByRules =
     (processes : Processes) (machine : Machine) (journal : List Entry)

@@ -62,4 +62,5 @@ may_follow processes past order event = allowed processes order event && is_turn
 -- the source order of a run of the processes, in the order of its events
 abbrev pub source_order : Processes → List Entry → List SourceEvent
 source_order processes journal =
-    ordered does (sooner processes.start (reverse journal)) (may_follow processes (reverse journal)) (items processes.start processes.nodes (reverse journal))
+    ordered does (sooner processes.start (reverse journal)) (may_follow processes (reverse journal))
+    (items processes.start processes.nodes (reverse journal))

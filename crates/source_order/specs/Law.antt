@@ -1,6 +1,6 @@
--- The order theorem, after Shasha and Snir (1988): where what has to come before what has no cycle, the source order is a
--- whole history of the processes, with the outcome of the run; and where each blocking access is over before its node's
--- next own step, time alone shows that there is no cycle.
+-- The order theorem, after Shasha and Snir (1988): where what has to come before what has no cycle, the source order
+-- is a whole history of the processes, with the outcome of the run; and where each blocking access is over before its
+-- node's next own step, time alone shows that there is no cycle.
 use Rattle.std.specs.Prelude.{ℕ, List, [], ◌∷◌, reverse, IsSome}
 use Rattle.sc_base.specs.declared.value.Place.{Place}
 use Rattle.sc_base.specs.declared.value.Value.{Value}
@@ -17,7 +17,7 @@ use Rattle.sc_meaning.specs.OfAccess.{is_blocking}
 use Rattle.source_order.specs.Items.{items, source_order}
 use Rattle.source_order.specs.Needs.{NoCycle}
 use Rattle.source_order.specs.Made.{IsMade}
-use Rattle.source_order.specs.Answering.{AllWaitForAnswers}
+use Rattle.sc_meaning.specs.Answering.{AllWaitForAnswers}
 
 -- every item is taken, once, and nothing else
 pub record TakesAll (all order : List SourceEvent) : Type 0 where
@@ -29,9 +29,11 @@ pub record TakesAll (all order : List SourceEvent) : Type 0 where
 pub record IsOrdered (processes : Processes) (machine : Machine) (journal : List Entry) : Type 0 where
   pub takes : TakesAll (items processes.start processes.nodes (reverse journal)) (source_order processes journal)
   pub history : IsHistory processes (source_order processes journal)
-  pub same : SameOutcome processes.nodes (run_outcome machine journal) (outcome processes (source_order processes journal))
+  pub same : SameOutcome processes.nodes (run_outcome machine journal)
+      (outcome processes (source_order processes journal))
 
--- The order theorem, for processes that wait for what is answered: legal, complete, the same outcome, and everything taken.
+-- The order theorem, for processes that wait for what is answered: legal, complete, the same outcome, and everything
+-- taken.
 abbrev pub OrderHolds : Type 0
 OrderHolds =
     (processes : Processes) (machine : Machine) (journal : List Entry)
@@ -42,7 +44,8 @@ OrderHolds =
 abbrev pub IsPlain : (Place → Value) → (nodes : ℕ) → List Entry → Type 0
 IsPlain start nodes [] = Unit {0}
 IsPlain start nodes (entry ∷ past) =
-    ((node : ℕ) → IsSome (request_by node entry) → AllDone start past is_blocking node) × IsPlain start nodes past
+    ((node : ℕ) → IsSome (request_by node entry) → AllDone start past is_blocking node)
+    × IsPlain start nodes past
 
 -- by time alone
 abbrev pub PlainRunsHaveNoCycle : Type 0

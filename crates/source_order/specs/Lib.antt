@@ -6,5 +6,4 @@ pub mod Made
 pub mod Law
 pub mod Story
 pub mod Whole
-pub mod Answering
 pub mod ByRules

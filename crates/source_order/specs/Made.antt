@@ -1,6 +1,6 @@
--- When a run's nodes made the requests of some processes, as a simulation between two transition systems (Milner, 1971):
--- each node's own steps in the journal are the requests of its process under the answers that the journal shows, with the
--- same bytes and the same end.
+-- When a run's nodes made the requests of some processes, as a simulation between two transition systems (Milner,
+-- 1971): each node's own steps in the journal are the requests of its process under the answers that the journal
+-- shows, with the same bytes and the same end.
 use Rattle.std.specs.Prelude.{◌≡◌, ℕ, ◌<◌, List, [], ◌∷◌, map, Option, Some, None, false, ◌==◌, ◌&&◌, if◌then◌else◌}
 use Rattle.sc_base.specs.declared.value.Place.{Place}
 use Rattle.sc_base.specs.declared.value.End.{End}
@@ -31,7 +31,8 @@ answer_of_issue all node number _ = None
 
 -- what the entry answers to the node; past: the entries before it
 abbrev pub answer_by : List Effect → ℕ → List Entry → Entry → Option Answer
-answer_by all node past (Issued other number access) = if other == node then answer_of_issue all node number access else None
+answer_by all node past (Issued other number access) =
+    if other == node then answer_of_issue all node number access else None
 answer_by all node past (Waited other counter) =
     if (other == node) && (counter == 0) then Some (Landed (got node all (awaited node 0 past))) else None
 answer_by all node past (Passed other) = if other == node then Some PassedOn else None

@@ -1,6 +1,6 @@
--- The moments of a run, by which the conflict order of Shasha and Snir (1988) is read: each entry of a journal takes one,
--- and after it each effect that occurs with it. Own steps happen at the moment of their entry, effects at their own, and a
--- release with the first passing of its barrier. A past is a list of entries, the newest first.
+-- The moments of a run, by which the conflict order of Shasha and Snir (1988) is read: each entry of a journal takes
+-- one, and after it each effect that occurs with it. Own steps happen at the moment of their entry, effects at their
+-- own, and a release with the first passing of its barrier. A past is a list of entries, the newest first.
 use Rattle.std.specs.Prelude.{ℕ, suc, ◌+◌, List, [], ◌∷◌, length, ltb, is_some, Bool, false, ◌==◌, ◌&&◌, ◌||◌, nat_lt, if◌then◌else◌}
 use Rattle.std.specs.Option.{option_map_or}
 use Rattle.sc_base.specs.declared.value.Place.{Place}
@@ -26,7 +26,8 @@ abbrev pub event_of : List Entry → CellEffect → SourceEvent
 event_of past effect =
     if option_map_or is_done_at_once (access_at effect.node effect.number past) false
     then Do effect.node (request_of effect.node effect.number past) effect.wrote effect.place effect.value
-    else Effect effect.node (request_of effect.node effect.number past) effect.cell effect.wrote effect.place effect.value
+    else Effect effect.node (request_of effect.node effect.number past) effect.cell effect.wrote
+    effect.place effect.value
 
 -- the entry passes a barrier that no node passed before, and that is the m-th
 abbrev pub releases_as : (m : ℕ) → List Entry → Entry → Bool
@@ -63,7 +64,8 @@ module _ (start : Place → Value) (whole : List Entry) where
   -- how many effects were before the event's
   abbrev pub effects_before : SourceEvent → List CellEffect → ℕ
   effects_before event [] = 0
-  effects_before event (effect ∷ earlier) = if is_effect_of event effect then length earlier else effects_before event earlier
+  effects_before event (effect ∷ earlier) =
+      if is_effect_of event effect then length earlier else effects_before event earlier
 
   -- the moment of the event's own step
   abbrev pub begun_in : List Entry → SourceEvent → ℕ

@@ -1,6 +1,6 @@
--- Which items of a run the source needs before which, whatever the values are: a node's own steps in order, parts after
--- their issue and before what waits for them, releases after arrivals and before what follows those. After the processes
--- order of Shasha and Snir (1988), with split accesses and barriers.
+-- Which items of a run the source needs before which, whatever the values are: a node's own steps in order, parts
+-- after their issue and before what waits for them, releases after arrivals and before what follows those. After the
+-- processes order of Shasha and Snir (1988), with split accesses and barriers.
 use Rattle.std.specs.Prelude.{ℕ, suc, List, Bool, true, false, ◌==◌, ◌&&◌, ◌||◌, nat_lt, nat_le}
 use Rattle.std.specs.Option.{option_map_or}
 use Rattle.sc_base.specs.declared.value.Place.{Place}

@@ -58,7 +58,8 @@ track_at node request (_ ∷ past) = track_at node request past
 abbrev pub arrivals_among : (node first : ℕ) → List Entry → ℕ
 arrivals_among node first [] = 0
 arrivals_among node first (Arrived other stores ∷ past) =
-    if (other == node) && nat_lt (requested node past) first then arrivals_among node first past + 1 else arrivals_among node first past
+    if (other == node) && nat_lt (requested node past) first then arrivals_among node first past + 1
+    else arrivals_among node first past
 arrivals_among node first (_ ∷ past) = arrivals_among node first past
 
 -- the node finishes

@@ -1,5 +1,5 @@
--- A run of the fabric as the laws on orders see it, after Shasha and Snir (1988): its items with their moments, over the
--- points of a code. With it the source order is that of these laws.
+-- A run of the fabric as the laws on orders see it, after Shasha and Snir (1988): its items with their moments, over
+-- the points of a code. With it the source order is that of these laws.
 use Rattle.std.specs.Prelude.{◌≡◌, ℕ, suc, List, reverse, Bool, true, false, ◌==◌}
 use Rattle.sc_base.specs.declared.value.Place.{Place}
 use Rattle.sc_base.specs.declared.value.Value.{Value}
@@ -21,7 +21,7 @@ use Rattle.source_order.specs.Moments.{does, sooner, time, issue_time}
 use Rattle.source_order.specs.Items.{items, may_follow, source_order}
 use Rattle.source_order.specs.Needs.{needs, NoCycle}
 use Rattle.source_order.specs.Made.{IsMade}
-use Rattle.source_order.specs.Answering.{AllWaitForAnswers}
+use Rattle.sc_meaning.specs.Answering.{AllWaitForAnswers}
 
 abbrev pub is_effect : SourceEvent → Bool
 is_effect (Do node k wrote place value) = true
@@ -53,7 +53,8 @@ step_of past (Release m) = 0
 step_of past (Over node end) = requested node past
 
 -- the run, where the points of the code and the point of each item are known
-abbrev pub run_with : {S : Type 0} → Flow S → (SourceEvent → S) → (Place → Value) → (nodes : ℕ) → List Entry → Run SourceEvent S
+abbrev pub run_with : {S : Type 0} → Flow S → (SourceEvent → S) → (Place → Value) → (nodes : ℕ) →
+    List Entry → Run SourceEvent S
 run_with flow point start nodes past = record {
   Member = λ event. In event (items start nodes past);
   is_effect = is_effect;
@@ -73,7 +74,8 @@ abbrev pub IsThatOrder : {S : Type 0} → Flow S → (SourceEvent → S) → Typ
 IsThatOrder flow point =
     (processes : Processes) (journal : List Entry)
     → source_order processes journal
-    ≡ sourced (run_with flow point processes.start processes.nodes (reverse journal)) (may_follow processes (reverse journal))
+    ≡ sourced (run_with flow point processes.start processes.nodes (reverse journal))
+    (may_follow processes (reverse journal))
     (items processes.start processes.nodes (reverse journal))
 
 -- the items of a run of some processes can be ordered: the source allows exactly those that have all that they need

@@ -1,5 +1,5 @@
--- What compiling a source answers: its parts, or the first refusal, in the order of lexing, parsing, layout, check, flow
--- and code.
+-- What compiling a source answers: its parts, or the first refusal, in the order of lexing, parsing, layout, check,
+-- flow and code.
 use Rattle.std.specs.Prelude.{◌≡◌, ℕ, ◌<◌, ◌≤◌, List, Result, Ok, Err}
 use Rattle.sc_base.specs.declared.limits.TheConstants.{LIMITS}
 use Rattle.sc_tree.specs.Names.{Text}

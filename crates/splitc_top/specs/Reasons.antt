@@ -95,7 +95,8 @@ pub record IsRefused (command : Option Command) (before after : Option (List ℕ
   pub outside : IsOutside named given reason
 
 -- what the reason says of the words, of the source before and after, and of its counts of faults
-abbrev pub Holds : Option Command → (before after : Option (List ℕ)) → (faults faults_after : ℕ) → Reason → Type 0
+abbrev pub Holds : Option Command → (before after : Option (List ℕ)) → (faults faults_after : ℕ) →
+    Reason → Type 0
 Holds command before after faults faults_after reason.Words = command ≡ None
 Holds command before after faults faults_after reason.TooLong = IsRefused command before after reason.TooLong
 Holds command before after faults faults_after (reason.Refused r) = IsRefused command before after (reason.Refused r)

@@ -20,7 +20,8 @@ abbrev pub IsReport : Status → Type 0
 IsReport status = (status ≡ Ended) ⊎ (status ≡ Fault) ⊎ (status ≡ Waiting) ⊎ (status ≡ Cut)
 
 -- The source was read to its end, and the text is that of the command for what it gave.
-pub record IsReported (command : Option Command) (made : Option Parts) (before after : Option (List ℕ)) (text : List ℕ)
+pub record IsReported (command : Option Command) (made : Option Parts) (before after : Option (List ℕ))
+    (text : List ℕ)
     (status : Status) : Type 0 where
   pub named : Command
   pub words : command ≡ Some named
@@ -85,7 +86,8 @@ pub record IsCause (call : Call) (r : Reason) : Type 0 where
 
 pub record IsAnswer (call : Call) (result : Status) : Type 0 where
   -- A text was written whole, and nothing else.
-  pub reported : IsReport result → (text : List ℕ) × Tells call text result × Gained call.out text × Gained call.err []
+  pub reported : IsReport result → (text : List ℕ) × Tells call text result × Gained call.out text
+      × Gained call.err []
   -- A refusal has its reason, whose line was written whole, and nothing else.
   pub refused : IsRefusal result → (r : Reason) × (result ≡ status_of_reason r) × IsCause call r
       × Gained call.out [] × Gained call.err (reason_line r)
@@ -99,10 +101,12 @@ pub record IsAnswer (call : Call) (result : Status) : Type 0 where
   pub words_alone : (Failed call.err → ⊥) → result ≢ Memory → call.command ≡ None → result ≡ Words
   pub served : (command : Command) (bytes : List ℕ)
       → call.command ≡ Some command → call.source.before ≡ Some bytes → Serves command bytes
-      → (Failed call.source → ⊥) → (Failed call.out → ⊥) → (Failed call.err → ⊥) → result ≢ Memory → IsReport result
+      → (Failed call.source → ⊥) → (Failed call.out → ⊥) → (Failed call.err → ⊥) →
+      result ≢ Memory → IsReport result
   pub outside : (command : Command) (bytes : List ℕ) (r : Reason)
       → call.command ≡ Some command → call.source.before ≡ Some bytes → IsOutside command bytes r
       → (Failed call.source → ⊥) → (Failed call.err → ⊥) → result ≢ Memory
       → (result ≡ Refused) × Gained call.err (reason_line r)
   -- Whatever was made is the code of the source.
-  pub made : (parts : Parts) → call.made ≡ Some parts → IsMade call.command call.source.before call.source.after parts
+  pub made : (parts : Parts) → call.made ≡ Some parts →
+      IsMade call.command call.source.before call.source.after parts

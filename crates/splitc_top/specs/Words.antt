@@ -17,7 +17,8 @@ within low high (Some n) = if nat_le low n && nat_le n high then Some n else Non
 
 -- the number of a word of 1 to 20 digits, where it is in the range
 abbrev pub number_word : ℕ → ℕ → List ℕ → Option ℕ
-number_word low high word = if nat_le 1 (length word) && nat_le (length word) 20 then within low high (number_after 0 word) else None
+number_word low high word = if nat_le 1 (length word) && nat_le (length word) 20
+    then within low high (number_after 0 word) else None
 
 abbrev pub with_nodes : Options → Option ℕ → Option Options
 with_nodes o None = None
@@ -48,7 +49,8 @@ options_of words None = None
 options_of [] (Some o) = Some o
 options_of (name ∷ []) (Some o) = if bytes_eq name (codes "-m") then with_memory o else None
 options_of (name ∷ word ∷ words) (Some o) =
-    if bytes_eq name (codes "-m") then options_of (word ∷ words) (with_memory o) else options_of words (with_option name word o)
+    if bytes_eq name (codes "-m") then options_of (word ∷ words) (with_memory o)
+    else options_of words (with_option name word o)
 
 abbrev pub no_options : Options
 no_options = record { nodes = None; seed = None; budget = None; memory = false }

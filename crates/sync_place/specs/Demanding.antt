@@ -37,7 +37,8 @@ IsBlockingOf graph p r = MatchOption r ((number : ℕ) → Accesses graph p numb
 
 -- those of the points below the number n
 pub record AreBlocking (graph : Graph) (n : ℕ) (bs : List Blocking) : Type 0 where
-  pub each : (b : Blocking) → Contains bs b → (a : ℕ) × (p : Point) × (a < n) × (slice_get graph.points a ≡ Some p) × IsBlocking graph p b
+  pub each : (b : Blocking) → Contains bs b → (a : ℕ) × (p : Point) × (a < n)
+      × (slice_get graph.points a ≡ Some p) × IsBlocking graph p b
   pub all : (a number : ℕ) (p : Point) → a < n → slice_get graph.points a ≡ Some p → Accesses graph p number
       → (b : Blocking) × Contains bs b × (b.site ≡ number)
 
@@ -58,7 +59,8 @@ PointDemands p b delays =
 -- one of the first n sites of the list has this number, and the point demands it
 abbrev pub Marks : Point → List Blocking → (n : ℕ) → (delays : Bits) → (number : ℕ) → Type 0
 Marks p bs n delays number =
-    (k : ℕ) × (b : Blocking) × (k < n) × (slice_get bs k ≡ Some b) × (b.site ≡ number) × PointDemands p b delays
+    (k : ℕ) × (b : Blocking) × (k < n) × (slice_get bs k ≡ Some b) × (b.site ≡ number)
+    × PointDemands p b delays
 
 -- the second bits are the first, with these in the column of the point
 pub record IsMarked (p : Point) (at : ℕ) (bs : List Blocking) (n : ℕ) (delays old new : Bits) : Type 0 where

@@ -18,18 +18,21 @@ IsOne graph delays plan = IsPlacedPlan graph delays plan ⊎ IsEarlyPlan graph d
 
 -- code with such a plan waits in time
 abbrev pub PlansWaitInTime : Type 0
-PlansWaitInTime = (graph : Graph) (delays : Bits) (plan : Plan) → IsFlow graph → IsOne graph delays plan → WaitsInTime graph plan
+PlansWaitInTime = (graph : Graph) (delays : Bits) (plan : Plan) → IsFlow graph → IsOne graph delays plan →
+    WaitsInTime graph plan
 
 -- Start and the first point of a function do nothing, and so demand nothing
 abbrev pub FirstPointsAreIdle : Graph → Type 0
 FirstPointsAreIdle graph =
     (t : ℕ) (p : Point) → IsFirst graph t → slice_get graph.points t ≡ Some p
-    → ((p.kind ≡ Start) ⊎ (p.kind ≡ Plain)) × (p.takes ≡ []) × (p.reads ≡ []) × ((local : ℕ) → p.writes ≡ Some local → ⊥)
+    → ((p.kind ≡ Start) ⊎ (p.kind ≡ Plain)) × (p.takes ≡ []) × (p.reads ≡ [])
+    × ((local : ℕ) → p.writes ≡ Some local → ⊥)
 
 -- such a plan is a plan of the flow
 abbrev pub PlansArePlans : Type 0
 PlansArePlans =
-    (graph : Graph) (delays : Bits) (plan : Plan) → IsFlow graph → FirstPointsAreIdle graph → IsOne graph delays plan → IsPlan graph plan
+    (graph : Graph) (delays : Bits) (plan : Plan) → IsFlow graph → FirstPointsAreIdle graph →
+    IsOne graph delays plan → IsPlan graph plan
 
 -- ---- the demands are those of the laws of the order
 
@@ -43,7 +46,8 @@ pub record IsOfOrder (graph : Graph) (delays : Bits) (flow : order.Flow ℕ) : T
   pub first : (site t u : ℕ) → IsAt graph site t →
       First graph delays site u ↔ order_plan.First flow.Goes (OrderDemand graph delays) t u
   pub one_way : (site t : ℕ) → IsAt graph site t →
-      GoesOneWay graph delays site ↔ order_plan.OneWay flow.Goes (OrderDemand graph delays) flow.may_go_one_way flow.is_barrier t
+      GoesOneWay graph delays site ↔ order_plan.OneWay flow.Goes (OrderDemand graph delays) flow.may_go_one_way
+      flow.is_barrier t
 
 abbrev pub PlansAreOfOrder : Type 0
 PlansAreOfOrder =

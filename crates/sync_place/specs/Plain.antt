@@ -12,7 +12,8 @@ FirstsFollowNoAccess graph = (t a number : ℕ) → IsFirst graph t → Goes gra
 
 -- one of the edges leads from the access of the blocking site to the point
 abbrev pub BehindBy : Graph → List Edge → (site t : ℕ) → Type 0
-BehindBy graph edges site t = Blocks graph site × ((a : ℕ) × IsAt graph site a × Contains edges (record { from = a; to = t }))
+BehindBy graph edges site t = Blocks graph site
+    × ((a : ℕ) × IsAt graph site a × Contains edges (record { from = a; to = t }))
 
 -- which points are behind which sites by these edges; rows are sites, and columns are points
 abbrev pub AreBehind : Graph → List Edge → Bits → Type 0
@@ -22,4 +23,5 @@ AreBehind graph edges bits = IsOf (length graph.sites + 1) (length graph.points)
 pub record IsMarkedBehind (graph : Graph) (edge : Edge) (old new : Bits) : Type 0 where
   pub same_rows : new.rows ≡ old.rows
   pub same_columns : new.columns ≡ old.columns
-  pub pairs : (r c : ℕ) → IsSet new r c ↔ (IsSet old r c ⊎ ((edge.to ≡ c) × Blocks graph r × IsAt graph r edge.from))
+  pub pairs : (r c : ℕ) → IsSet new r c
+      ↔ (IsSet old r c ⊎ ((edge.to ≡ c) × Blocks graph r × IsAt graph r edge.from))

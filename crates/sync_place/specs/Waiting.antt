@@ -11,7 +11,8 @@ IsWriteSite graph number = (s : Site) × (site_at graph number ≡ Some s) × (s
 
 -- each of the points before the n-th that is set in the row is a barrier
 abbrev pub OnlyBarriers : Graph → (first : Bits) → (number n : ℕ) → Type 0
-OnlyBarriers graph first number n = (t : ℕ) → t < n → IsSet first number t → is_barrier (kind_at graph t) ≡ true
+OnlyBarriers graph first number n = (t : ℕ) → t < n → IsSet first number t →
+    is_barrier (kind_at graph t) ≡ true
 
 abbrev pub GoesByFirst : Graph → (first : Bits) → (number : ℕ) → Type 0
 GoesByFirst graph first number = IsWriteSite graph number × OnlyBarriers graph first number (length graph.points)

@@ -149,7 +149,8 @@ module _ {T E : Type 0} where
   drew st m r m' = (t : ℕ) × (r ≡ t % 2 ^ 64) × (m' ≡ (view m.0.seen m.0.lanes (Waiting t), m.1))
 
   -- the seat has the turn, and with it the slot, whose value's list it has then seen
-  pub record Gains (entries : T → List E) (lane : E → ℕ) (closes : E → Bool) (t : ℕ) (m m' : Sat T E) : Type 0 where
+  pub record Gains (entries : T → List E) (lane : E → ℕ) (closes : E → Bool) (t : ℕ)
+      (m m' : Sat T E) : Type 0 where
     -- the value
     pub value : T
     -- the seat after the step
@@ -162,7 +163,8 @@ module _ {T E : Type 0} where
     pub ends : ClosesLast lane closes (entries value)
 
   -- it gains the turn exactly where the ticket that is served is its own
-  abbrev pub looked : (T → List E) → (E → ℕ) → (E → Bool) → Step (Option T) → Sat T E → ℕ → Sat T E → Type 0
+  abbrev pub looked : (T → List E) → (E → ℕ) → (E → Bool) → Step (Option T) → Sat T E → ℕ →
+      Sat T E → Type 0
   looked entries lane closes st m r m' = (t : ℕ) → m.0.stage ≡ Waiting t
       → (r ≡ t % 2 ^ 64 → Gains entries lane closes t m m') × (r ≢ t % 2 ^ 64 → m' ≡ m)
 

@@ -1,5 +1,6 @@
 -- Words on lists that the clauses and the rule of the turn lock share: the lane of a list, lanes that are closed, and
--- what is counted of lanes and of views. They are ordinary list words; docs/contracts.md, "The turn lock", says them in prose.
+-- what is counted of lanes and of views. They are ordinary list words; docs/contracts.md, "The turn lock", says them
+-- in prose.
 use Rattle.std.specs.Prelude.{◌≡◌, ℕ, ◌+◌, Bool, true, false, List, [], ◌∷◌, length, if◌then◌else◌, ◌==◌, nat_le, min, filter, All}
 
 -- the entries of the lane k, in order

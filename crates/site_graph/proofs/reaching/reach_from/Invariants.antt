@@ -4,4 +4,4 @@ use Rattle.site_graph.specs.Reached.{Reaches}
 use Rattle.site_graph.proofs.reaching.reach_from.Given as goal
 
 abbrev pub invariant-loop-row : goal.invariant-loop-row
-invariant-loop-row l = IsOf (length l.starts) (length l.flow.points) (λ row t. (row < l.row) × Reaches l.flow l.stops (get_or l.starts row 0) t) l.rows
+invariant-loop-row l = IsOf (length l.starts) (length l.flow.points) (λ r t. (r < l.row) × Reaches l.flow l.stops (get_or l.starts r 0) t) l.rows

@@ -1,5 +1,5 @@
--- Which requests are answered, and processes that ask by these alone: reads that block, syncs and barriers are answered, and
--- every other request of "Introduction to Split-C" (Culler and others, 1995) goes on at once.
+-- Which requests are answered, and processes that ask by these alone: reads that block, syncs and barriers are
+-- answered, and every other request of "Introduction to Split-C" (Culler and others, 1995) goes on at once.
 use Rattle.std.specs.Prelude.{◌≡◌, ℕ, ◌<◌, Bool, true, false}
 use Rattle.resumption.specs.Resumption.{Asks, Makes, Says, Stops}
 use Rattle.sc_meaning.specs.declared.request.Request.{Request}
@@ -16,7 +16,8 @@ is_answered _ = false
 
 -- the process waits for an answer exactly after the requests that are answered
 unfoldable pub WaitsForAnswers : SourceDoing → Type 0
-WaitsForAnswers (Asks request fits go) = (is_answered request ≡ true) × ((answer : _) → WaitsForAnswers (go answer))
+WaitsForAnswers (Asks request fits go) = (is_answered request ≡ true)
+    × ((answer : _) → WaitsForAnswers (go answer))
 WaitsForAnswers (Makes request rest) = (is_answered request ≡ false) × WaitsForAnswers rest
 WaitsForAnswers (Says text rest) = WaitsForAnswers rest
 WaitsForAnswers (Stops halt) = Unit {0}

@@ -1,11 +1,11 @@
--- A source's node waits for an answer exactly after what is answered.
+-- A source's node waits for an answer exactly after the requests that are answered.
 use Rattle.std.proofs.Common.{◌≡◌, ℕ, Bool, true, false, refl}
 use Rattle.resumption.specs.Resumption.{Asks, Makes, Says, Stops}
 use Rattle.sc_meaning.specs.declared.request.Request.{Request}
 use Rattle.sc_meaning.specs.declared.request.Request.TheVariants as request
+use Rattle.sc_meaning.specs.Answering.{is_answered, WaitsForAnswers}
 use Rattle.sc_meaning.specs.Asking.{PointedDoing, Requested, Came, Answer, without_points}
 use Rattle.sc_meaning.specs.Meaning.{Setting, pointed, meaning}
-use Rattle.replay_stages.specs.Courses.{is_answered, WaitsForAnswers}
 use Rattle.forgotten_marks.proofs.Well.{Well, Answers, IsMade, gets_after, pointed_good}
 
 asked : (n : ℕ) (r : Request) (fits : Answer → Bool) → Answers n r fits → is_answered r ≡ true
