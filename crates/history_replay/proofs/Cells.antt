@@ -151,7 +151,7 @@ length_more : (xs : List ℕ) (x : ℕ) → length (xs ++ x ∷ []) ≡ suc (len
 length_more [] x = refl
 length_more (y ∷ xs) x = ap suc (length_more xs x)
 
-length_below : (n : ℕ) → length (numbers_below n) ≡ n
+pub length_below : (n : ℕ) → length (numbers_below n) ≡ n
 length_below zero = refl
 length_below (suc n) = length_more (numbers_below n) n ∙ ap suc (length_below n)
 
@@ -165,7 +165,7 @@ number_at (suc n) i h =
     get_front (numbers_below n) (n ∷ []) i (let l = length_below n in omega arith) ∙ number_at n i lt)
     (eqb_tells i n)
 
-get_below : (f : ℕ → List (List Value)) (n i : ℕ) → i < n → slice_get (map f (numbers_below n)) i ≡ Some (f i)
+pub get_below : (f : ℕ → List (List Value)) (n i : ℕ) → i < n → slice_get (map f (numbers_below n)) i ≡ Some (f i)
 get_below f n i h = slice_get-map f (numbers_below n) i ∙ ap (option_map f) (number_at n i h)
 
 get_copies : (n i : ℕ) (v : Value) → i < n → slice_get (replicate n v) i ≡ Some v
@@ -184,35 +184,6 @@ start_in layout p is =
         → option_and_then (λ values. slice_get values p.offset) (option_map (object_start layout p.node) o) ≡ Some (zero_in o)
     by None h = absurd (omega arith)
     by (Some x) h = get_copies (cells_of layout.nodes x p.node) p.offset (zero_of x.shape.ty.stars) h
-
-copies_within : (n i : ℕ) (w : Value) → IsSome (slice_get (replicate n w) i) → i < n
-copies_within zero i w g = absurd cc
-copies_within (suc n) zero w g = omega arith
-copies_within (suc n) (suc i) w g = let lt = copies_within n i w g in omega arith
-
--- what is known at the start are cells of the layout
-pub only_start : (layout : Arrangement) (p : Place) → IsSome (cell_in (known_at_start layout) p) → IsPlace layout p
-only_start layout p h =
-    by (slice_get layout.objects p.object) refl
-    (sym (ap is_some (ap (option_and_then (λ objects. object_at objects p.object p.offset)) (get_below (node_start layout) layout.nodes p.node node_within)
-    ∙ ap (option_and_then (λ values. slice_get values p.offset)) (slice_get-map (object_start layout p.node) layout.objects p.object))) ∙ h)
-  where
-    node_within : p.node < layout.nodes
-    node_within =
-        let s = some_then (λ objects. object_at objects p.object p.offset) (slice_get (known_at_start layout) p.node) h in
-        let lt : p.node < length (known_at_start layout) = slice_get_within (known_at_start layout) p.node s.0 s.1 in
-        let l : length (known_at_start layout) ≡ length (numbers_below layout.nodes) = length-map (numbers_below layout.nodes) (node_start layout) in
-        let m = length_below layout.nodes in omega arith
-
-    by : (o : Option LaidObject) → slice_get layout.objects p.object ≡ o
-        → IsSome (option_and_then (λ values. slice_get values p.offset) (option_map (object_start layout p.node) o)) → IsPlace layout p
-    by None e g = absurd cc
-    by (Some x) e g = record {
-      object = slice_get_within layout.objects p.object x e;
-      node = node_within;
-      offset = subst (λ o. p.offset < option_map_or (λ y. cells_of layout.nodes y p.node) o 0) (sym e)
-          (copies_within (cells_of layout.nodes x p.node) p.offset (zero_of x.shape.ty.stars) g);
-    }
 
 -- a cell that is known at the start holds what its object begins with
 known_start : (layout : Arrangement) (p : Place) (v : Value) → cell_in (known_at_start layout) p ≡ Some v → v ≡ start layout p

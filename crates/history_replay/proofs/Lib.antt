@@ -1,5 +1,6 @@
 pub mod Fronts
 pub mod Cells
+pub mod Sizes
 pub mod Reaching
 pub mod Taking
 pub mod Stopping

@@ -29,10 +29,10 @@ use Rattle.replay_tables.specs.Cells.{known_at_start}
 use Rattle.replay_stages.proofs.Courses.{courses_are_followed}
 use Rattle.history_replay.specs.Fronts.{first_front}
 use Rattle.forgotten_marks.proofs.Waiting.{source_waits}
-use Rattle.history_replay.proofs.Cells.{holds_start, start_in, only_start}
+use Rattle.history_replay.proofs.Cells.{holds_start, start_in}
 use Rattle.history_replay.specs.declared.judge.Judge.{Judge}
 use Rattle.history_replay.specs.Fronts.{AllAt, said}
-use Rattle.history_replay.specs.Reached.{Reached, NextAt}
+use Rattle.history_replay.specs.Reached.{Reached, NextAt, extents_in}
 
 next_past : (rest : SourceDoing) → next_event (past_text rest) ≡ next_event rest
 next_past (Asks r fits go) = refl
@@ -115,8 +115,7 @@ a_turn processes past old new node number o e reached tables cells layout many a
     all = all;
     placed = λ place is. subst (λ c. IsSome (cell_in c.known place)) (sym cells)
         (reached.placed place (subst (λ l. IsPlace l.now place) layout is));
-    only = λ place h. subst (λ l. IsPlace l.now place) (sym layout)
-        (reached.only place (subst (λ c. IsSome (cell_in c.known place)) cells h));
+    sized = ap (λ c. extents_in c.known) cells ∙ reached.sized ∙ ap (λ l. extents_in (known_at_start l.now)) (sym layout);
   };
   next = next
       ∙ sym (next_past (reached.fronts node).rest)
@@ -165,6 +164,5 @@ begun layout program budget new laid tables cells many all =
       all = all;
       placed = λ place is. subst (λ c. IsSome (cell_in c.known place)) (sym cells)
           (subst IsSome (sym (start_in layout place (subst (λ l. IsPlace l place) laid is))) refl);
-      only = λ place h. subst (λ l. IsPlace l place) (sym laid)
-          (only_start layout place (subst (λ c. IsSome (cell_in c.known place)) cells h));
+      sized = ap (λ c. extents_in c.known) cells ∙ ap (λ l. extents_in (known_at_start l)) (sym laid);
     }

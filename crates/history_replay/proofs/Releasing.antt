@@ -60,7 +60,7 @@ module _ (processes : Processes) (past : List SourceEvent) (old new : Judge) (re
           reaches processes past (Release number) old new reached (with_release old.tables) old.cells (holds old.layout.now old.cells) p.now
           (record { as_tables = b1; as_cells = b2; as_layout = b3; as_many = b4 })
           (g.released number p.now e (λ n lt. p.passed n (subst (λ m. n < m) counted lt)))
-          (λ place. refl) (λ place. refl) p.at;
+          (λ place. refl) (λ place. refl) refl p.at;
       doomed = λ f. let s = refused f in
           let lt = subst (λ m. s.node < m) (sym counted) s.within in
           g.stuck s.node (Release number) Passed lt (g.release_answer s.node number lt e) s.stuck;

@@ -71,7 +71,7 @@ module _ (processes : Processes) (past : List SourceEvent) (old new : Judge) (re
       (reaches processes past (Over node end) old new reached (with_end old.tables node end) old.cells shows after b
       ((goes_on processes past old.tables shows after stage).ended node end
       (may_end old.tables after shows node end unlike ∙ and_from _ _ on so_said) unlike)
-      (λ place. refl) (λ place. refl) all)
+      (λ place. refl) (λ place. refl) refl all)
 
   pub not_on : (end : End) → (end ≡ Waiting → ⊥) → goes_on_at old.tables node ≡ false → Taken processes past (Over node end) new false
   not_on end unlike off =
@@ -137,7 +137,7 @@ module _ (processes : Processes) (past : List SourceEvent) (old new : Judge) (re
           (g.gave_up node f on
           ((followed (processes.starts node) (answers processes node past ++ Broken ∷ []) (requests_of (row_at old.tables node)) go.front.text).said go.front.rest stood)
           (stop_past go.front.rest ∙ ends_now_is Waiting (stop_of go.front.rest) so))
-          (λ place. refl) (λ place. refl)
+          (λ place. refl) (λ place. refl) refl
           (λ n r at. subst (IsAt r) (once (node == n) n) (all n r at)))
         where
           once : (c : Bool) (n : ℕ)

@@ -18,7 +18,7 @@ use Rattle.sc_meaning.specs.Test.{is_read_of, is_write_of, is_sync, is_barrier}
 use Rattle.replay_books.specs.Row.{landing}
 use Rattle.replay_books.specs.Tables.{TablesBook, row_at, goes_on_at, made_at, with_made, with_sync, with_arrival, with_occurred, split_over, may_occur_in_tables}
 use Rattle.replay_laws.specs.Keeps.{requests_of}
-use Rattle.replay_tables.specs.Cells.{CellBook, holds, cell_in, with_cell}
+use Rattle.replay_tables.specs.Cells.{CellBook, holds, cell_in, with_cell, known_at_start}
 use Rattle.replay_stages.specs.Courses.{Course, IsStuck}
 use Rattle.sc_meaning.specs.Answering.{is_answered}
 use Rattle.replay_stages.specs.Stage.{Front, Stage}
@@ -28,9 +28,10 @@ use Rattle.replay_stages.proofs.Testing.{goes_on_is, stands_next}
 use Rattle.replay_stages.proofs.Moving.{answer_here, eq_self}
 use Rattle.history_replay.specs.declared.judge.Judge.{Judge}
 use Rattle.history_replay.specs.Fronts.{AllAt, GoesTo}
-use Rattle.history_replay.specs.Reached.{Reached, NextAt, Taken}
+use Rattle.history_replay.specs.Reached.{Reached, NextAt, Taken, extents_in}
 use Rattle.history_replay.proofs.Reaching.{reshown}
 use Rattle.history_replay.proofs.Cells.{holds_written, placed_written}
+use Rattle.history_replay.proofs.Sizes.{sized_written}
 
 pub turned_down : (processes : Processes) (past : List SourceEvent) (event : SourceEvent) (j new : Judge) (reached : Reached processes past j)
     → may j.tables reached.fronts (holds j.layout.now j.cells) event ≡ false → Taken processes past event new false
@@ -70,8 +71,9 @@ module _ (processes : Processes) (past : List SourceEvent) (event : SourceEvent)
       → Stage processes (event ∷ past) tables shows fronts
       → ((place : Place) → holds old.layout.now cells place ≡ shows place)
       → ((place : Place) → is_some (cell_in cells.known place) ≡ is_some (cell_in old.cells.known place))
+      → extents_in cells.known ≡ extents_in old.cells.known
       → AllAt new.nodes.runners.items fronts → Reached processes (event ∷ past) new
-  reaches tables cells shows fronts b stage same kept all = record {
+  reaches tables cells shows fronts b stage same kept as_many all = record {
     fronts = fronts;
     stage = subst (λ t. Stage processes (event ∷ past) t (holds new.layout.now new.cells) fronts) (sym b.as_tables)
         (reshown processes (event ∷ past) tables shows fronts stage (holds new.layout.now new.cells)
@@ -81,8 +83,8 @@ module _ (processes : Processes) (past : List SourceEvent) (event : SourceEvent)
     all = all;
     placed = λ place is. subst (λ c. IsSome (cell_in c.known place)) (sym b.as_cells)
         (kept place ∙ reached.placed place (subst (λ l. IsPlace l.now place) b.as_layout is));
-    only = λ place h. subst (λ l. IsPlace l.now place) (sym b.as_layout)
-        (reached.only place (sym (kept place) ∙ subst (λ c. IsSome (cell_in c.known place)) b.as_cells h));
+    sized = ap (λ c. extents_in c.known) b.as_cells ∙ as_many ∙ reached.sized
+        ∙ ap (λ l. extents_in (known_at_start l.now)) (sym b.as_layout);
   }
 
 module _ (processes : Processes) (past : List SourceEvent) (event : SourceEvent) (old new : Judge) (node number : ℕ) (r : Request)
@@ -139,7 +141,7 @@ module _ (processes : Processes) (past : List SourceEvent) (event : SourceEvent)
             let go = taken (processes.starts node) (answers processes node past) (requests_of (row_at old.tables node)) fronts r
             n.reached.all here c next is t in
             reaches processes past event old new n.reached tables old.cells shows (with_front fronts node go.front) b
-            (stage go.front go.course) (λ place. refl) (λ place. refl) go.all;
+            (stage go.front go.course) (λ place. refl) (λ place. refl) refl go.all;
         doomed = λ f.
             g.stuck node event answer within ans
             (refused (processes.starts node) (answers processes node past) (requests_of (row_at old.tables node)) fronts r
@@ -160,15 +162,16 @@ module _ (processes : Processes) (past : List SourceEvent) (event : SourceEvent)
       → Stage processes (event ∷ past) tables after (with_front fronts node f))
       → ((place : Place) → holds old.layout.now cells place ≡ after place)
       → ((place : Place) → is_some (cell_in cells.known place) ≡ is_some (cell_in old.cells.known place))
+      → extents_in cells.known ≡ extents_in old.cells.known
       → Becomes new old tables cells → WillPass → Taken processes past event new true
-  passed tables cells after is stage same kept b will =
+  passed tables cells after is stage same kept as_many b will =
       let c = g.free node turn in
       let go = will (processes.starts node) (answers processes node past) (requests_of (row_at old.tables node)) fronts r
       n.reached.all here c next is in
       came processes past event new
       (reaches processes past event old new n.reached tables cells after (with_front fronts node go.front) b
       (stage go.front (subst (λ given. Course (processes.starts node) given (requests_of (row_at old.tables node) ++ r ∷ []) go.front.text go.front.rest)
-      (sym (append-nil (answers processes node past))) go.course)) same kept go.all)
+      (sym (append-nil (answers processes node past))) go.course)) same kept as_many go.all)
 
 -- ---- one event each
 
@@ -219,7 +222,8 @@ module _ (processes : Processes) (past : List SourceEvent) (old new : Judge) (no
       passed processes past (Do node number true place value) old new node number r n (with_made old.tables node r)
       (with_cell old.cells place value) (written_to (holds old.layout.now old.cells) place value) (write_passed place value r is)
       (λ f c. (g processes past (Do node number true place value) old new node number r n).wrote node number place value r f (sym n.next) is c)
-      (holds_written old.layout.now old.cells place value) (placed_written old.cells place value) b will
+      (holds_written old.layout.now old.cells place value) (placed_written old.cells place value)
+      (sized_written old.cells place value) b will
 
   pub issues : is_issued r ≡ true → Becomes new old (with_made old.tables node r) old.cells
       → WillPass processes past (Issue node number) old new node number r n → Taken processes past (Issue node number) new true
@@ -227,7 +231,7 @@ module _ (processes : Processes) (past : List SourceEvent) (old new : Judge) (no
       passed processes past (Issue node number) old new node number r n (with_made old.tables node r) old.cells
       (holds old.layout.now old.cells) (issue_passed r is)
       (λ f c. (g processes past (Issue node number) old new node number r n).issued node number r f (sym n.next) is c)
-      (λ place. refl) (λ place. refl) b will
+      (λ place. refl) (λ place. refl) refl b will
 
   pub syncs : {E : Type 0} (result : Result Bool E) (values : List Value) → is_sync r ≡ true → split_over old.tables node ≡ true
       → values ≡ landing (row_at old.tables node)
@@ -252,7 +256,7 @@ module _ (processes : Processes) (past : List SourceEvent) (old new : Judge) (no
       (reaches processes past (Arrive node number stores) old new n.reached (with_arrival old.tables node r stores) old.cells
       (holds old.layout.now old.cells) n.reached.fronts b
       ((g processes past (Arrive node number stores) old new node number r n).arrived node number stores r (sym n.next) is)
-      (λ place. refl) (λ place. refl) (subst (λ all. AllAt all.runners.items n.reached.fronts) (sym same) n.reached.all))
+      (λ place. refl) (λ place. refl) refl (subst (λ all. AllAt all.runners.items n.reached.fronts) (sym same) n.reached.all))
 
 pub occurs : (processes : Processes) (past : List SourceEvent) (old new : Judge) (reached : Reached processes past old)
     (node number cell : ℕ) (wrote : Bool) (place : Place) (value : Value) (cells : CellBook)
@@ -267,6 +271,7 @@ occurs processes past old new reached node number cell wrote place value cells e
     ((goes_on processes past old.tables (holds old.layout.now old.cells) reached.fronts reached.stage).occurred node number cell wrote place value e)
     (λ other. ap (λ c. holds old.layout.now c other) is ∙ shown wrote other)
     (λ other. ap (λ c. is_some (cell_in c.known other)) is ∙ kept wrote other)
+    (ap (λ c. extents_in c.known) is ∙ as_many wrote)
     (subst (λ all. AllAt all.runners.items reached.fronts) (sym same) reached.all))
   where
     shown : (w : Bool) (other : Place) → holds old.layout.now (if w then with_cell old.cells place value else old.cells) other
@@ -278,3 +283,7 @@ occurs processes past old new reached node number cell wrote place value cells e
         → is_some (cell_in (if w then with_cell old.cells place value else old.cells).known other) ≡ is_some (cell_in old.cells.known other)
     kept true other = placed_written old.cells place value other
     kept false other = refl
+
+    as_many : (w : Bool) → extents_in (if w then with_cell old.cells place value else old.cells).known ≡ extents_in old.cells.known
+    as_many true = sized_written old.cells place value
+    as_many false = refl

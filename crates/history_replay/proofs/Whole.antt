@@ -1,6 +1,6 @@
 -- What a judge tells at the end of a history.
 use Rattle.std.proofs.Common.{◌≡◌, ℕ, zero, suc, ◌+◌, ◌<◌, ◌≤◌, List, [], ◌∷◌, ◌++◌, length, map, reverse, take, drop, Option, Some, None, Bool, true, false, refl, sym, ap, ◌∙◌, subst, arith, slice_get, get_or, add-one}
-use Rattle.std.specs.Prelude.{IsSome, is_some}
+use Rattle.std.specs.Prelude.{IsSome}
 use Rattle.std.specs.Option.{option_and_then, option_map, option_or, unwrap_or}
 use Rattle.std.proofs.Math.Seq.{take-suc}
 use Rattle.std.proofs.lemmas.List.{reverse-append, length-map}
@@ -19,7 +19,7 @@ use Rattle.sc_meaning.specs.Whole.{Complete, IsHistory, outcome}
 use Rattle.replay_books.specs.Row.{fresh_row}
 use Rattle.replay_books.specs.Tables.{row_at, end_or_cut, is_complete_in}
 use Rattle.sc_replay.specs.Judging as judging
-use Rattle.sc_replay.specs.Judging.{Tells}
+use Rattle.sc_replay.specs.Judging.{AreCellsOf, Tells}
 use Rattle.replay_tables.specs.Cells.{holds, cell_in, stray_value}
 use Rattle.replay_stages.specs.Stage.{IsDoomed}
 use Rattle.replay_stages.specs.Ending.{Told}
@@ -27,6 +27,7 @@ use Rattle.replay_stages.proofs.Ending.{histories_are_told}
 use Rattle.history_replay.specs.declared.judge.Judge.{Judge}
 use Rattle.history_replay.specs.Fronts.{said}
 use Rattle.history_replay.specs.Reached.{Reached, Taken}
+use Rattle.history_replay.proofs.Sizes.{all_cells}
 
 -- ---- the events that were read
 
@@ -132,6 +133,5 @@ module _ (program : Program) (budget : ℕ) (history : List SourceEvent) (j : Ju
           ap (λ cells. judging.cell_in cells place) memory ∙ same_cell j.cells.known place
           ∙ known_holds (cell_in j.cells.known place) (stray_value j.cells.strays place) _ (reached.placed place is)
           ∙ ap Some (told.memory place);
-      only = λ place value h. reached.only place
-          (ap is_some (sym (same_cell j.cells.known place) ∙ sym (ap (λ cells. judging.cell_in cells place) memory) ∙ h));
+      cells = subst (AreCellsOf layout) (sym memory) (all_cells layout j.cells.known reached.sized);
     }

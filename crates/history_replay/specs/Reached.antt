@@ -1,15 +1,20 @@
 -- How far a judge has come in a list of events. A past has the newest event first.
-use Rattle.std.specs.Prelude.{◌≡◌, ℕ, List, ◌∷◌, length, Option, IsSome, Bool, true, false}
+use Rattle.std.specs.Prelude.{◌≡◌, ℕ, List, ◌∷◌, length, map, Option, IsSome, Bool, true, false}
 use Rattle.sc_meaning.specs.declared.event.SourceEvent.{SourceEvent}
 use Rattle.sc_meaning.specs.declared.request.Request.{Request}
 use Rattle.sc_meaning.specs.Past.{Processes}
 use Rattle.sc_base.specs.declared.value.Place.{Place}
+use Rattle.sc_base.specs.declared.value.Value.{Value}
 use Rattle.sc_layout.specs.Place.{IsPlace}
-use Rattle.replay_tables.specs.Cells.{holds, cell_in}
+use Rattle.replay_tables.specs.Cells.{holds, cell_in, known_at_start}
 use Rattle.replay_stages.specs.Stage.{Front, Stage, IsDoomed}
 use Rattle.replay_stages.specs.Laws.{next_in}
 use Rattle.history_replay.specs.declared.judge.Judge.{Judge}
 use Rattle.history_replay.specs.Fronts.{AllAt}
+
+-- how many cells are known of each object on each node
+abbrev pub extents_in : List (List (List Value)) → List (List ℕ)
+extents_in known = map (λ objects. map (λ values. length values) objects) known
 
 -- the judge stands where the past has led it
 pub record Reached (processes : Processes) (past : List SourceEvent) (j : Judge) : Type 0 where
@@ -18,9 +23,9 @@ pub record Reached (processes : Processes) (past : List SourceEvent) (j : Judge)
   pub many : length j.nodes.runners.items ≡ processes.nodes
   pub counted : processes.nodes ≡ j.layout.now.nodes
   pub all : AllAt j.nodes.runners.items fronts
-  -- the places of the layout are known, and no others
+  -- the places of the layout are known, and there are as many as at the start
   pub placed : (place : Place) → IsPlace j.layout.now place → IsSome (cell_in j.cells.known place)
-  pub only : (place : Place) → IsSome (cell_in j.cells.known place) → IsPlace j.layout.now place
+  pub sized : extents_in j.cells.known ≡ extents_in (known_at_start j.layout.now)
 
 -- so it does, and this is the node's next request
 pub record NextAt (processes : Processes) (past : List SourceEvent) (node number : ℕ) (j : Judge)

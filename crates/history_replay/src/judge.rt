@@ -27,7 +27,8 @@ use sc_layout::Layout;
 use sc_meaning::{Ends, Outcome, Request, SourceEvent, Streams};
 use std::alloc::Global;
 
-/// The nodes of a source where a list of events has led them, with the tables of what was read of the list.
+/// The nodes of a source where a list of events has led them, with the tables of what was read of the list. After an
+/// `Err` of `take` or `outcome` it is not to be used.
 #[derive(Drop)]
 pub struct Judge<'a> {
     alloc: Global,

@@ -7,4 +7,4 @@ pub mod histories;
 pub mod judge;
 mod nodes;
 
-pub use histories::replay;
+pub use histories::{replay, replay_core};

@@ -33,7 +33,7 @@ answers_grow processes node (e ∷ later) past =
     let m = and_more (answers processes node past) h.0 o in
     (m.0, ap (λ g. and_answer g o) h.1 ∙ m.1)
 
-some_of : {A : Type 0} (o : Option A) → IsSome o → (x : A) × (o ≡ Some x)
+pub some_of : {A : Type 0} (o : Option A) → IsSome o → (x : A) × (o ≡ Some x)
 some_of None h = absurd cc
 some_of (Some x) h = (x, refl)
 

@@ -1,6 +1,5 @@
 -- A stage at which all is complete tells a history.
-use Rattle.std.proofs.Common.{◌≡◌, ℕ, ◌<◌, List, ◌++◌, Option, Some, None, true, false, refl, sym, ap, ◌∙◌, reverse}
-use Rattle.std.specs.Prelude.{IsSome}
+use Rattle.std.proofs.Common.{◌≡◌, ℕ, ◌<◌, List, ◌++◌, Some, None, true, false, refl, sym, ap, ◌∙◌, reverse}
 use Rattle.resumption.specs.Resumption.{next_text}
 use Rattle.sc_base.specs.declared.value.Place.{Place}
 use Rattle.sc_base.specs.declared.value.Value.{Value}
@@ -14,12 +13,9 @@ use Rattle.replay_laws.specs.Laws.{Answers}
 use Rattle.replay_stages.specs.Stage.{Front, Stage}
 use Rattle.replay_stages.specs.Ending.{Told, HistoriesAreTold}
 use Rattle.replay_stages.proofs.Courses.{followed}
+use Rattle.replay_stages.proofs.Doom.{some_of}
 use Rattle.replay_stages.proofs.Known.{row_length, answering}
 use Rattle.replay_stages.proofs.Testing.{stops_so}
-
-some_of : {A : Type 0} (o : Option A) → IsSome o → (x : A) × (o ≡ Some x)
-some_of None h = absurd cc
-some_of (Some x) h = (x, refl)
 
 module _ (processes : Processes) (history : List SourceEvent) (t : TablesBook) (shows : Place → Value) (fronts : ℕ → Front)
     (s : Stage processes (reverse history) t shows fronts) where

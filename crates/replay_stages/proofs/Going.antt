@@ -28,6 +28,7 @@ use Rattle.replay_laws.specs.Keeps.{Keeps, requests_of}
 use Rattle.replay_laws.specs.Laws.{Answers, GoOn}
 use Rattle.replay_laws.proofs.Lists.{get_front}
 use Rattle.replay_laws.proofs.Going.{books_go_on}
+use Rattle.replay_laws.proofs.Requested.{requests_more}
 use Rattle.replay_laws.proofs.Others.{when, of_do, of_issue, of_effect, of_sync, of_arrive, of_end}
 use Rattle.replay_stages.specs.Courses.{Course, stop_of, IsStuck}
 use Rattle.sc_meaning.specs.Answering.{is_answered}
@@ -37,7 +38,7 @@ use Rattle.replay_stages.proofs.Courses.{followed}
 use Rattle.replay_stages.proofs.Known.{row_length, made_first, answering}
 use Rattle.replay_stages.proofs.Doom.{not_allowed, stuck_dooms}
 use Rattle.replay_stages.proofs.Testing.{refused, goes_on_is, free, waiting, is_next, stands_next, may_end_is, stops_so, is_ends_now}
-use Rattle.replay_stages.proofs.Moving.{eq_self, requests_part, requests_more, node_same, node_free, own, kept, answer_here, answer_elsewhere}
+use Rattle.replay_stages.proofs.Moving.{eq_self, requests_part, node_same, node_free, own, kept, answer_here, answer_elsewhere}
 
 -- a request that is not issued
 plain_read : (place : Place) (r : Request) → is_read_of place r ≡ true → is_issued r ≡ false

@@ -2,16 +2,15 @@
 use Rattle.std.proofs.Common.{◌≡◌, ⊎_elim, ℕ, ◌+◌, ◌<◌, ◌≤◌, List, [], ◌∷◌, ◌++◌, Option, Some, None, Bool, true, false, ◌==◌, refl, sym, ap, ◌∙◌, subst, if◌then◌else◌, arith, slice_get, slice_set, get_or, eq-eqb}
 use Rattle.std.specs.Option.{option_map_or}
 use Rattle.std.proofs.lemmas.Bool.Decides.{eqb_tells}
-use Rattle.std.proofs.lemmas.List.{map-append, get_or-set_same, get_or-set_other}
+use Rattle.std.proofs.lemmas.List.{get_or-set_same, get_or-set_other}
 use Rattle.sc_base.specs.declared.value.Place.{Place}
 use Rattle.sc_base.specs.declared.value.Value.{Value}
-use Rattle.sc_meaning.specs.declared.request.Request.{Request}
 use Rattle.sc_meaning.specs.declared.event.SourceEvent.{SourceEvent}
 use Rattle.sc_meaning.specs.Asking.{Answer}
 use Rattle.sc_meaning.specs.Past.{Processes, shown, releases, arrivals, ended, answers, and_answer}
 use Rattle.sc_meaning.specs.History.{Allowed}
-use Rattle.replay_books.specs.Entry.{EntryBook, fresh_entry, occurred}
-use Rattle.replay_books.specs.Row.{RowBook, fresh_row, with_request, with_part, with_entry}
+use Rattle.replay_books.specs.Entry.{EntryBook, occurred}
+use Rattle.replay_books.specs.Row.{RowBook, fresh_row, with_part, with_entry}
 use Rattle.replay_books.specs.Tables.{TablesBook, row_at}
 use Rattle.replay_laws.specs.Keeps.{Keeps, requests_of}
 use Rattle.replay_laws.proofs.Occurred.{map_set}
@@ -33,9 +32,6 @@ requests_part row number cell wrote value = by (slice_get row.entries number) re
     by (Some x) e =
         ap (λ o. requests_of (option_map_or (λ e. with_entry row number (occurred e cell wrote value)) o row)) e
         ∙ map_set (λ y. y.request) row.entries number x (occurred x cell wrote value) e refl
-
-pub requests_more : (row : RowBook) (r : Request) → requests_of (with_request row r) ≡ requests_of row ++ r ∷ []
-requests_more row r = map-append (λ e. e.request) row.entries (fresh_entry r ∷ [])
 
 -- where nothing that is said of the node changes, it stands as before
 pub node_same : (processes : Processes) (node : ℕ) (past later : List SourceEvent) (row new : RowBook) (f : Front)

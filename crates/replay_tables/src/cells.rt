@@ -38,8 +38,8 @@ pub struct Stray {
     pub value: Value,
 }
 
-/// What each place holds: the cells of a layout, and apart from them the places that are none of it, as a source of
-/// wrong types may name.
+/// What each place holds: the cells of a layout, and apart from them what was written to places that are none of it,
+/// so that it is told of every place, whatever is written.
 #[derive(Drop)]
 pub struct CellTable {
     nodes: Vec<NodeTable>,

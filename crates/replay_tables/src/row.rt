@@ -13,7 +13,7 @@ use std::marker::Model;
 
 /// What the tables keep of one node: its requests by number, at how many barriers it has arrived, how it ended, which
 /// of its requests since its last sync are gets, and how many of its transfers, by the way in which they are waited
-/// for, have parts that have not occurred.
+/// for, have parts that have not occurred. After an `Err` of a call it is not to be used.
 #[derive(Debug, Drop)]
 pub struct Row {
     entries: Vec<Entry>,

@@ -12,7 +12,7 @@ use std::alloc::{AllocError, Global};
 use std::marker::Model;
 
 /// What is kept of all nodes: a row for each, how many releases there were, and whether a node that stands at a
-/// barrier waits for stores there.
+/// barrier waits for stores there. After an `Err` of a call it is not to be used.
 #[derive(Debug, Drop)]
 pub struct Tables {
     rows: Vec<Row>,

@@ -7,7 +7,7 @@ ghost use Rattle.std.specs.List.{All};
 ghost use Rattle.sc_layout.specs.Bound.{IsWhole};
 ghost use Rattle.sc_layout.specs.Layout.{IsLawful};
 
-use history_replay::replay;
+use history_replay::replay_core;
 use sc_base::{Binary, Bound, BoundStep, BoundSteps, Bounds, End, Place, Shape, Stars, Ty, Value};
 use sc_core::{
     Action, Constant, CoreArm, CoreExpr, CoreFirst, CoreFunction, CoreProgram, CoreStmt, Operation,
@@ -290,7 +290,7 @@ fn replayed(alloc: Global, asked: Asked) -> Option<usize> {
     let core = program(alloc, asked.rounds).ok()?;
     let events = SourceHistory::from_vec(history(alloc, asked).ok()?);
     let budget = u64::from(asked.rounds);
-    let outcome = replay(alloc, &core, &layout, budget, &events).ok()??;
+    let outcome = replay_core(alloc, &core, &layout, budget, &events).ok()??;
     Some(outcome.ends.as_slice().len())
 }
 

@@ -1,5 +1,5 @@
 -- A node's run is followed by what is left of it.
-use Rattle.std.proofs.Common.{◌≡◌, ℕ, Bool, true, false, if◌then◌else◌, List, [], ◌∷◌, ◌++◌, length, Option, Some, None, is_some, slice_get, refl, sym, ap, ◌∙◌, append_assoc}
+use Rattle.std.proofs.Common.{◌≡◌, ℕ, Bool, true, false, if◌then◌else◌, List, [], ◌∷◌, ◌++◌, length, Option, Some, None, slice_get, refl, sym, ap, ◌∙◌, append_assoc}
 use Rattle.std.proofs.lemmas.List.{append-nil}
 use Rattle.resumption.specs.Resumption.{Asks, Makes, Stops, RunOf, RunEnd, Ends, Short, Followed, unanswered, after_event, run_of, next_text, past_text}
 use Rattle.resumption.specs.Laws.{run_after}
@@ -10,8 +10,11 @@ use Rattle.sc_meaning.specs.declared.event.SourceEvent.{SourceEvent}
 use Rattle.sc_meaning.specs.declared.outcome.Outcome.{Outcome}
 use Rattle.sc_meaning.specs.declared.request.Request.{Request}
 use Rattle.sc_meaning.specs.Asking.{Answer, Halt, SourceDoing}
+use Rattle.sc_meaning.specs.Source.{processes_of}
+use Rattle.sc_meaning.specs.Whole.{outcome}
 use Rattle.sc_replay.specs.Courses.{HasDone, CoursesGoOn}
 use Rattle.sc_replay.specs.Judging.{Judges}
+use Rattle.sc_replay.proofs.Telling.{told_in_one_way}
 
 abbrev Run : Type 0
 Run = RunOf Request Halt
@@ -100,8 +103,9 @@ courses_go_on = record {
 }
 
 pub one_way : (layout : Arrangement) (program : Program) (budget : ℕ) (history : List SourceEvent) (a b : Option Outcome)
-    → Judges layout program budget history a → Judges layout program budget history b → is_some a ≡ is_some b
+    → Judges layout program budget history a → Judges layout program budget history b → a ≡ b
 one_way layout program budget history None None h g = refl
 one_way layout program budget history None (Some told) amiss so = absurd (amiss so.0)
 one_way layout program budget history (Some told) None so amiss = absurd (amiss so.0)
-one_way layout program budget history (Some told) (Some other) h g = refl
+one_way layout program budget history (Some told) (Some other) h g =
+    ap Some (told_in_one_way layout (outcome (processes_of layout program budget) history) told other h.1 g.1)

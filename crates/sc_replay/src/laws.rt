@@ -9,7 +9,7 @@ pub fn courses_go_on()
     ensures { CoursesGoOn }
 {}
 
-/// Whether a list of events is a history is judged in one way.
+/// A list of events is judged in one way: there is one answer that is right.
 pub fn judged_in_one_way()
     ensures { JudgesInOneWay }
 {}

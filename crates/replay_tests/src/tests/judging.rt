@@ -1,5 +1,6 @@
 //! Histories of small sources by hand: whole ones, and beginnings with events that the conditions refuse.
 
+mod endings;
 mod histories;
 mod sources;
 
@@ -8,7 +9,7 @@ use histories::{
     over, sync,
 };
 use history_replay::judge::Judge;
-use history_replay::replay;
+use history_replay::replay_core;
 use sc_base::{End, OutOfMemory, Place, Value};
 use sc_core::CoreProgram;
 use sc_layout::Layout;
@@ -48,7 +49,7 @@ fn judged(
     let core = program(alloc, source)?;
     let layout = four_cells(alloc, two)?.ok_or("no layout")?;
     let history = SourceHistory::from_vec(events);
-    Ok(replay(alloc, &core, &layout, 10, &history).map_err(|_| "memory")?)
+    Ok(replay_core(alloc, &core, &layout, 10, &history).map_err(|_| "memory")?)
 }
 
 /// What a history on two nodes shows: the nodes' ends and texts, and the cells of `s`.

@@ -33,7 +33,7 @@ fn a_run_of_late_puts_is_replayed(rt: HostRuntime) -> Result<(), Fail> {
         else { F[0] := 1; r = F[1]; } sync(); printf(\"%d\\n\", r); }",
     )?;
     let history = ordered(alloc, &compiled, &[])?;
-    let told = replay(alloc, &compiled.core, &compiled.layout, BUDGET, &history)?;
+    let told = replay(alloc, &compiled.typed, &compiled.layout, BUDGET, &history)?;
     let told = told.ok_or("no history")?;
     for node in 0..2usize {
         let text = told.printed.as_slice().get(node).ok_or("no text")?;

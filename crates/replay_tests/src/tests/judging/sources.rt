@@ -31,6 +31,8 @@ pub enum Act {
     AllStoreSync,
     PrintLocals,
     PrintCell(i64),
+    /// An endless loop that does nothing.
+    Forever,
 }
 
 /// What node 0 does, and what every other node does.
@@ -100,6 +102,37 @@ pub const MISLANDING: Source = Source {
 /// A write, and its value printed.
 pub const PRINTING: Source = Source {
     zero: &[Act::Write(0, 7), Act::PrintCell(0)],
+    others: &[],
+};
+
+/// Node 0 reads a cell that `s` does not have, while node 1 stores.
+pub const FAULTING: Source = Source {
+    zero: &[Act::Write(0, 7), Act::Read(4), Act::Write(0, 8)],
+    others: &[Act::Store(2, 3)],
+};
+
+/// Node 0 writes and then turns for ever, and node 1 reads.
+pub const TURNING: Source = Source {
+    zero: &[Act::Write(0, 7), Act::Forever],
+    others: &[Act::Read(0)],
+};
+
+/// Node 0 gets a cell before each of two syncs, and prints both.
+pub const SYNCING_TWICE: Source = Source {
+    zero: &[
+        Act::Put(1, 5),
+        Act::Get(0, 3),
+        Act::Sync,
+        Act::Get(1, 1),
+        Act::Sync,
+        Act::PrintLocals,
+    ],
+    others: &[],
+};
+
+/// Node 0 copies two cells to node 1 and does not sync.
+pub const COPYING_AT_THE_END: Source = Source {
+    zero: &[Act::Write(0, 3), Act::Copy(CopyMode::Split, 16, 1, 0)],
     others: &[],
 };
 
@@ -257,17 +290,37 @@ fn action(what: Act) -> Action {
         Act::AllStoreSync => Action::AllStoreSync,
         Act::PrintLocals => Action::Print { text: 0, count: 2 },
         Act::PrintCell(_) => Action::Print { text: 1, count: 1 },
+        Act::Forever => Action::Drop,
+    }
+}
+
+fn endless(alloc: Global) -> Result<CoreStmt, AllocError> {
+    let before = Boxed::new(alloc, CoreStmt::Nothing)?;
+    let body = Boxed::new(alloc, CoreStmt::Nothing)?;
+    let after = Boxed::new(alloc, CoreStmt::Nothing)?;
+    Ok(CoreStmt::Loop {
+        mine: None,
+        before,
+        body,
+        after,
+    })
+}
+
+fn statement(alloc: Global, what: Act) -> Result<CoreStmt, AllocError> {
+    match what {
+        Act::Forever => endless(alloc),
+        _ => Ok(CoreStmt::Act {
+            action: action(what),
+            arguments: arguments(alloc, what)?,
+            line: 1,
+        }),
     }
 }
 
 fn block(alloc: Global, acts: &[Act]) -> Result<CoreStmt, AllocError> {
     let mut all = Items::new(alloc);
     for what in acts {
-        all.push(CoreStmt::Act {
-            action: action(*what),
-            arguments: arguments(alloc, *what)?,
-            line: 1,
-        })?;
+        all.push(statement(alloc, *what)?)?;
     }
     Ok(CoreStmt::Block(all))
 }

@@ -7,7 +7,7 @@ use Rattle.sc_meaning.specs.Source.{processes_of}
 use Rattle.sc_meaning.specs.Whole.{IsHistory, outcome}
 use Rattle.sc_replay.specs.Judging.{Tells}
 use Rattle.history_replay.proofs.Whole.{read_on, read_doomed, all_read, unfinished, whole}
-use Rattle.history_replay.proofs.histories.replay.Goals as goal
+use Rattle.history_replay.proofs.histories.replay_core.Goals as goal
 
 pub loop-event-preserved : goal.loop-event-preserved
 loop-event-preserved c =
